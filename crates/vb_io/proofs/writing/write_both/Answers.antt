@@ -1,0 +1,12 @@
+use Rattle.vb_io.proofs.Written.{part_of_both, both_written}
+use Rattle.vb_io.proofs.writing.write_both.Goals as goal
+
+pub returns-in-Ok : goal.returns-in-Ok
+returns-in-Ok g c = both_written (g.K.Sink.written c.args.sink.now) (g.K.Sink.written c.write_all.new.sink) _ _ _ _ c.args.front.now c.args.back.now c.write_all-in-Ok.result c.in-Ok.ensures.ok c.write_all.ensures.later c.write_all-in-Ok.ensures
+
+pub returns-in-Err : goal.returns-in-Err
+returns-in-Err g c = record {
+  ok = tt;
+  failed = (part_of_both _ _ c.args.front.now c.args.back.now c.in-Err.ensures.failed.0, c.in-Err.ensures.failed.1);
+  later = c.write_all.ensures.later;
+}
