@@ -1,0 +1,12 @@
+//! Values, what a thread asks and is answered, and what is kept of a run.
+#![tactic(auto)]
+
+mod action;
+mod journal;
+mod stop;
+mod value;
+
+pub use action::{Action, Answer};
+pub use journal::{Entry, Journal, Tails};
+pub use stop::{Limits, Status, Stop};
+pub use value::{Ref, Shape, Value};
