@@ -1,0 +1,9 @@
+pub mod OneOf
+pub mod Steps
+pub mod Blocks
+pub mod Tests
+pub mod OneLine
+pub mod Bodies
+pub mod Declared
+pub mod Files
+pub mod Widest
