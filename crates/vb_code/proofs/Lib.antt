@@ -1,0 +1,4 @@
+pub mod Steps
+pub mod Tops
+pub mod Names
+pub mod First
