@@ -1,0 +1,6 @@
+pub mod Texts
+pub mod Emission
+pub mod Placed
+pub mod Simulation
+pub mod Standing
+pub mod Shaped
