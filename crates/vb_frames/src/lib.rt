@@ -1,0 +1,10 @@
+//! One thread of a compiled program: silent runs from ask to ask.
+#![tactic(auto)]
+
+mod answer;
+mod instructions;
+mod run;
+mod turn;
+
+pub use answer::give;
+pub use run::{Pause, Paused, run_local};

@@ -1,0 +1,139 @@
+-- A run that has stopped is as its stop says.
+use Rattle.std.proofs.Common.{◌≡◌, ℕ, zero, suc, ◌+◌, ◌<◌, ◌≤◌, Bool, List, [], ◌∷◌, ◌++◌, map, length, Option, Some, None, refl, sym, ap, subst, ◌∙◌, arith, lit<}
+use Rattle.std.specs.Prelude.{Contains}
+use Rattle.std.specs.Io.KnownBytes.{Appends}
+use Rattle.vb_threads.specs.Machine.{Sign, HasThrown, AsksNew, AsksWrite, begun}
+use Rattle.vb_threads.specs.World.{Run as Legal, at, opening}
+use Rattle.vb_threads.specs.Stands.{Comes, sign}
+use Rattle.vb_threads.specs.Schedule.{Reaches, ShowsNow}
+use Rattle.vb_value.specs.Store.{Ask, New, Write, End, sign_of}
+use Rattle.vb_value.specs.declared.stop.Limits.{Limits}
+use Rattle.vb_value.specs.declared.stop.Stop.{Stop}
+use Rattle.vb_value.specs.declared.stop.Stop.TheVariants.{Ended, Uncaught, HeapLimit, TurnLimit, WriteFault, Memory}
+use Rattle.vb_code.specs.declared.local.Position.TheVariants.{Thrown}
+use Rattle.vb_code.specs.Code.{Code, class_name}
+use Rattle.vb_code.specs.Machine.{CodeThread, code_next, code_machine}
+use Rattle.vb_code.specs.Local.{thread_at, thread_of}
+use Rattle.vb_frames.specs.Frames.{AsksNow, asked}
+use Rattle.vb_turns.specs.declared.alone.Run.{Run}
+use Rattle.vb_turns.specs.declared.alone.Running.{Running}
+use Rattle.vb_turns.specs.Ran.{Ran, entry_of, AreMains, ShowsBy, StandsBy}
+use Rattle.vb_turns.specs.Stage.{Stage, IsStage, Ends, EndsBy, units_asked}
+
+-- the first stage
+pub first_stage : (c : Code) (limits : Limits) (r : Running) → thread_of c r.local ≡ (code_machine c).main → r.local.begun ≡ 0 → r.journal ≡ [] → r.turns ≡ 0 → r.settled ≡ 0 → r.units ≡ 0 → IsStage c limits.heap r [] []
+first_stage c limits r main begun journal turns settled units input =
+    let start = opening (code_machine c) input limits.heap in
+    record {
+      world = start;
+      legal = subst (λ j. Legal (code_machine c) start (map entry_of j) start) (sym journal) refl;
+      thread = record { state = (code_machine c).main; since = 0 };
+      one = refl;
+      steps = 0;
+      arrives = sym main;
+      tail = omega (arith, begun);
+      turns = omega (arith, turns);
+      begun = settled;
+      units = units;
+      limit = refl;
+      shown = refl;
+      over = refl;
+    }
+
+-- an ask above the heap limit is for an object
+heap_asked : (a : Ask) (units heap : ℕ) → units ≤ heap → heap < units + units_asked a → (class : List ℕ) × (more : ℕ) × (a ≡ New class more)
+heap_asked (New class more) units heap le lt = (class, more, refl)
+heap_asked (Write text) units heap le lt = absurd (omega arith)
+heap_asked End units heap le lt = absurd (omega arith)
+
+module _ (c : Code) (limits : Limits) (input : List ℕ) (r : Running) (console over : List ℕ) (s : Stage c limits.heap input r console over) (tails : List ℕ) (are : tails ≡ r.local.begun ∷ []) where
+  number : ℕ
+  number = s.thread.since + begun (code_next c) s.steps s.thread.state
+
+  tail_is : tails ≡ (s.thread.since + begun (code_next c) s.steps s.thread.state) ∷ []
+  tail_is = are ∙ ap (λ n. n ∷ []) s.tail
+
+  one_thread : length s.world.threads ≡ 1
+  one_thread = ap length s.one
+
+  comes : Comes (code_machine c) s.world 0 (s.thread.since + begun (code_next c) s.steps s.thread.state) (thread_of c r.local)
+  comes = record { thread = s.thread; there = ap (λ ts. at ts 0) s.one; steps = s.steps; counts = refl; arrives = s.arrives }
+
+  come : (ts : List ℕ) → ts ≡ (s.thread.since + begun (code_next c) s.steps s.thread.state) ∷ [] → (t n : ℕ) → at ts t ≡ Some n → (x : CodeThread) × Comes (code_machine c) s.world t n x
+  come [] e t n h = absurd (cc)
+  come (m ∷ ms) e zero n h =
+      let a : m ≡ s.thread.since + begun (code_next c) s.steps s.thread.state = cc in
+      let b : m ≡ n = cc in
+      (thread_of c r.local, subst (λ k. Comes (code_machine c) s.world 0 k (thread_of c r.local)) (sym a ∙ b) comes)
+  come (m ∷ ms) e (suc t) n h =
+      let a : ms ≡ [] = cc in
+      let none : at ms t ≡ None = ap (λ xs. at xs t) a in
+      let both : None ≡ Some n = sym none ∙ h in
+      absurd (cc)
+
+  pub reaches : Reaches (code_machine c) s.world tails
+  reaches = record { as_many = ap length tail_is ∙ sym one_thread; come = come tails tail_is }
+
+  shows_next : (x : Sign) → sign (code_machine c).rows s.world.store (code_next c (thread_of c r.local)) ≡ Some x → ShowsNow (code_machine c) s.world tails 0 x
+  shows_next x e = record { number = s.thread.since + begun (code_next c) s.steps s.thread.state; there = ap (λ ts. at ts 0) tail_is; state = thread_of c r.local; comes = comes; shown = e }
+
+  shows_ask : (x : Sign) (committed : Bool) (a : Ask) → AsksNow c r.local committed → asked c r.local ≡ a → sign_of a ≡ Some x → ShowsNow (code_machine c) s.world tails 0 x
+  shows_ask x committed a asks is e = shows_next x (ap (λ n. sign (code_machine c).rows s.world.store n) asks.asks ∙ ap sign_of is ∙ e)
+
+  shows_thrown : (class : ℕ) → r.local.position ≡ Thrown class → ShowsNow (code_machine c) s.world tails 0 (HasThrown (class_name c class))
+  shows_thrown class e = shows_next (HasThrown (class_name c class)) (ap (λ q. sign (code_machine c).rows s.world.store (code_next c (thread_at c q r.local.operands r.local.slots))) e)
+
+  contains_first : (xs : List ℕ) → xs ≡ 0 ∷ [] → (t : ℕ) → t < 1 → Contains xs t
+  contains_first xs e t lt =
+      let first : 0 ≡ t = omega (arith, lt) in
+      subst (λ ys. Contains ys t) (sym e) (0, lit< tt, first)
+
+  contains_none : (xs : List ℕ) → xs ≡ [] → Contains xs 0 → ⊥
+  contains_none xs e h = let le = ap length e in let lt = h.1 in absurd (omega (arith, lt, le))
+
+  module _ (before after : Option (List ℕ)) (faults now : ℕ) where
+    appended : (more : List ℕ) → console ≡ more → Appends before after more → Appends before after s.world.store.console
+    appended more e h = subst (λ xs. Appends before after xs) (sym (s.shown ∙ e)) h
+
+    pub shows : (stop : Stop) → EndsBy c limits r stop console over before after faults now → ShowsBy c s.world tails stop before after faults now
+    shows Ended h = appended console refl h.1
+    shows (Uncaught thread class) h = appended console refl h.2
+    shows HeapLimit h = appended console refl h.2
+    shows TurnLimit h = appended console refl h.2
+    shows Memory h = appended console refl h
+    shows WriteFault h = (h.1, h.3, h.4, shows_ask (AsksWrite h.1) h.0.0 (Write h.1) h.0.1 h.2 refl, h.5, h.6, subst (λ xs. Appends before after (xs ++ h.3)) (sym s.shown) h.7, h.8)
+
+    pub stands : (stop : Stop) → r.units ≤ limits.heap → EndsBy c limits r stop console over before after faults now → StandsBy c s.world tails r.turns limits stop
+    stands Ended le h = λ t lt. contains_first s.world.store.ended (s.over ∙ h.0) t (let few = one_thread in omega (arith, lt, few))
+    stands (Uncaught thread class) le h = (h.0, shows_thrown class h.1)
+    stands HeapLimit le h =
+        let a = heap_asked (asked c r.local) r.units limits.heap le h.1 in
+        let units = ap units_asked a.2 in
+        let past : limits.heap < s.world.store.units + a.1 = omega (arith, h.1, s.units, units) in
+        record { thread = 0; class = a.0; units = a.1; asks = shows_ask (AsksNew a.0 a.1) h.0.0 (New a.0 a.1) h.0.1 a.2 refl; over = past }
+    stands TurnLimit le h = (h.0, λ all. contains_none s.world.store.ended (s.over ∙ h.1) (all 0 (lit< tt)))
+    stands WriteFault le h = tt
+    stands Memory le h = tt
+
+-- the run that is kept
+pub ran : (c : Code) (limits : Limits) (first r : Running) (stop : Stop) (before after : Option (List ℕ)) (faults now : ℕ) → IsStage c limits.heap first [] [] → Ends c limits first r stop before after faults now → (run : Run) → run.journal ≡ r.journal → run.tails ≡ r.local.begun ∷ [] → run.turns ≡ r.turns → run.begun ≡ r.settled + r.local.begun → run.threads ≡ 0 → run.units ≡ r.units → (input : List ℕ) → Ran c limits run stop input before after faults now
+ran c limits first r stop before after faults now begins e run journal tails turns begun threads units input =
+    let s = e.leads [] [] begins input in
+    let within : run.turns ≤ limits.turns = omega (arith, turns, e.small.turns) in
+    record {
+      world = s.world;
+      legal = subst (λ j. Legal (code_machine c) (opening (code_machine c) input limits.heap) (map entry_of j) s.world) (sym journal) s.legal;
+      thread = s.thread;
+      one = s.one;
+      steps = s.steps;
+      reaches = reaches c limits input r e.more e.over s run.tails tails;
+      tail = tails ∙ ap (λ n. n ∷ []) s.tail;
+      turns = turns ∙ s.turns;
+      begun = omega (arith, begun, s.begun, s.tail);
+      threads = threads;
+      units = units ∙ s.units;
+      within = within;
+      committed = subst AreMains (sym journal) e.mains;
+      shows = shows c limits input r e.more e.over s run.tails tails before after faults now stop e.ends;
+      stands = subst (λ n. StandsBy c s.world run.tails n limits stop) (sym turns) (stands c limits input r e.more e.over s run.tails tails before after faults now stop e.small.units e.ends);
+    }

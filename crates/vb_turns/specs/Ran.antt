@@ -1,0 +1,62 @@
+-- What the run of a program with one thread comes to.
+use Rattle.std.specs.Prelude.{◌≡◌, ℕ, ◌+◌, ◌<◌, ◌≤◌, ◌++◌, List, [], ◌∷◌, map, length, Option}
+use Rattle.std.specs.Io.KnownBytes.{Appends}
+use Rattle.vb_io.specs.Causes.{Rose}
+use Rattle.vb_text.specs.Units.{utf8_of}
+use Rattle.vb_threads.specs.Machine.{AsksWrite, begun, taken}
+use Rattle.vb_threads.specs.World.{Thread, World, Run as Legal, opening, Entry as OneEntry}
+use Rattle.vb_threads.specs.Schedule.{Reaches, ShowsNow, AllEnded, Ended as AllHaveEnded, Uncaught as HasThrown, HeapLimit as NoHeap, StandsNow}
+use Rattle.vb_value.specs.Store.{Store, seen}
+use Rattle.vb_value.specs.declared.journal.Entry.{Entry}
+use Rattle.vb_value.specs.declared.stop.Limits.{Limits}
+use Rattle.vb_value.specs.declared.stop.Stop.{Stop}
+use Rattle.vb_value.specs.declared.stop.Stop.TheVariants.{Ended, Uncaught, HeapLimit, TurnLimit, WriteFault, Memory}
+use Rattle.vb_code.specs.Code.{Code, class_name}
+use Rattle.vb_code.specs.Machine.{CodeThread, code_next, code_machine}
+use Rattle.vb_turns.specs.declared.alone.Run.{Run}
+
+-- one recorded action, as the entry of a journal of threads
+abbrev pub entry_of : Entry → OneEntry
+entry_of e = record { thread = e.thread; worker = e.worker; committed = e.committed }
+
+-- each entry is one of thread 0, run by worker 0
+abbrev pub AreMains : List Entry → Type 0
+AreMains [] = Unit {0}
+AreMains (e ∷ es) = (e.thread ≡ 0) × (e.worker ≡ 0) × AreMains es
+
+-- What the sink has gained at a stop: the console, and at a failed write a proper front of the text that is asked next.
+abbrev pub ShowsBy : Code → World CodeThread Store → List ℕ → Stop → Option (List ℕ) → Option (List ℕ) → ℕ → ℕ → Type 0
+ShowsBy c w tails Ended old new before now = Appends old new w.store.console
+ShowsBy c w tails (Uncaught thread class) old new before now = Appends old new w.store.console
+ShowsBy c w tails HeapLimit old new before now = Appends old new w.store.console
+ShowsBy c w tails TurnLimit old new before now = Appends old new w.store.console
+ShowsBy c w tails Memory old new before now = Appends old new w.store.console
+ShowsBy c w tails WriteFault old new before now = (text : List ℕ) × (front : List ℕ) × (back : List ℕ) × ShowsNow (code_machine c) w tails 0 (AsksWrite text) × (utf8_of text ≡ front ++ back) × (0 < length back) × Appends old new (w.store.console ++ front) × Rose before now
+
+-- How the threads stand at a stop.
+abbrev pub StandsBy : Code → World CodeThread Store → List ℕ → ℕ → Limits → Stop → Type 0
+StandsBy c w tails turns limits Ended = StandsNow (code_machine c) w tails limits.heap AllHaveEnded
+StandsBy c w tails turns limits (Uncaught thread class) = (thread ≡ 0) × StandsNow (code_machine c) w tails limits.heap (HasThrown 0 (class_name c class))
+StandsBy c w tails turns limits HeapLimit = StandsNow (code_machine c) w tails limits.heap NoHeap
+StandsBy c w tails turns limits TurnLimit = (turns ≡ limits.turns) × (AllEnded 1 (seen w.store) → ⊥)
+StandsBy c w tails turns limits WriteFault = Unit {0}
+StandsBy c w tails turns limits Memory = Unit {0}
+
+-- The journal is legal and leads to a world, from which the thread has come on to the run's tail by silent steps; the
+-- counts are those of that run; and the sink and the threads are as the stop says.
+pub record Ran (code : Code) (limits : Limits) (run : Run) (stop : Stop) (input : List ℕ) (old new : Option (List ℕ)) (before now : ℕ) : Type 0 where
+  pub world : World CodeThread Store
+  pub legal : Legal (code_machine code) (opening (code_machine code) input limits.heap) (map entry_of run.journal) world
+  pub thread : Thread CodeThread
+  pub one : world.threads ≡ thread ∷ []
+  pub steps : ℕ
+  pub reaches : Reaches (code_machine code) world run.tails
+  pub tail : run.tails ≡ (thread.since + begun (code_next code) steps thread.state) ∷ []
+  pub turns : run.turns ≡ world.paid + taken (code_next code) steps thread.state
+  pub begun : run.begun ≡ world.begun + (thread.since + begun (code_next code) steps thread.state)
+  pub threads : run.threads ≡ 0
+  pub units : run.units ≡ world.store.units
+  pub within : run.turns ≤ limits.turns
+  pub committed : AreMains run.journal
+  pub shows : ShowsBy code world run.tails stop old new before now
+  pub stands : StandsBy code world run.tails run.turns limits stop
