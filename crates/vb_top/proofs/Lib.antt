@@ -1,0 +1,4 @@
+pub mod Uncaught
+pub mod Kept
+pub mod Named
+pub mod Calls

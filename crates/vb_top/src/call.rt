@@ -1,0 +1,153 @@
+// The top call.
+ghost use Rattle.std.specs.Prelude.{◌≡◌, ◌≤◌, [], List, ℕ, map, string_bytes};
+ghost use Rattle.vb_io.specs.Files.{Files};
+ghost use Rattle.vb_top.specs.Words.{file_of_words};
+ghost use Rattle.vb_top.specs.Answers.{status_of as status_of_answer, line_of, Tells};
+ghost use Rattle.vb_top.specs.Headline.{MayBe, Built, Works, Headline, call_of};
+
+use crate::outcome::{Answer, Finished, Report};
+use crate::running::{Outcome, named, run_program};
+use crate::telling::{status_of, tell};
+use crate::words::file_word;
+use std::alloc::Global;
+use std::sync::Wait;
+use std::thread::Threads;
+use vb_bind::read_program;
+use vb_io::{Failed, Folder, Gate, LoadErr, Sink, Source};
+use vb_syntax::ReadErr;
+use vb_value::Status;
+
+const LONGEST_FILE: u64 = 4_194_304;
+
+/// All that the program does. It waits for nobody yet: it does what [`vb_command`] does.
+pub fn vb_top<
+    R: Threads + Wait + Sync,
+    F: Folder,
+    I: Source + Send,
+    O: Sink + Send,
+    E: Sink,
+    G: Gate,
+>(
+    rt: &R,
+    alloc: Global,
+    words: &[String],
+    folder: &mut F,
+    input: I,
+    out: O,
+    err: E,
+    gate: &G,
+) -> Finished<I, O, E>
+    ensures headline { (bytes : List ℕ) → MayBe (I.left input) bytes → Headline (call_of (map (λ w. string_bytes w) words.now) (F.holds folder.old) (F.holds folder.new) (F.faults folder.old) (F.faults folder.new) bytes (I.left result.input) (O.written out) (O.written result.out) (O.faults out) (O.faults result.out) (E.written err) (E.written result.err) (E.faults err) (E.faults result.err) result.status result.report) }
+    ensures input_stays { result.input ≡ input }
+{
+    let _ = rt;
+    let _ = gate;
+    vb_command(alloc, words, folder, input, out, err)
+}
+
+/// All that the program does without workers.
+pub fn vb_command<F: Folder, I: Source, O: Sink, E: Sink>(
+    alloc: Global,
+    words: &[String],
+    folder: &mut F,
+    input: I,
+    out: O,
+    err: E,
+) -> Finished<I, O, E>
+    ensures headline { (bytes : List ℕ) → MayBe (I.left input) bytes → Headline (call_of (map (λ w. string_bytes w) words.now) (F.holds folder.old) (F.holds folder.new) (F.faults folder.old) (F.faults folder.new) bytes (I.left result.input) (O.written out) (O.written result.out) (O.faults out) (O.faults result.out) (E.written err) (E.written result.err) (E.faults err) (E.faults result.err) result.status result.report) }
+    ensures input_stays { result.input ≡ input }
+{
+    let mut out = out;
+    match file_word(words) {
+        None => {
+            let usage = Outcome {
+                said: Answer::Usage,
+                report: None,
+                name: String::new(alloc),
+            };
+            finish("", usage, input, out, err)
+        }
+        Some(file) => {
+            let outcome = work(alloc, file, folder, &mut out);
+            finish(file, outcome, input, out, err)
+        }
+    }
+}
+
+// Tells an outcome, and hands all back.
+fn finish<I: Source, O: Sink, E: Sink>(
+    file: &str,
+    outcome: Outcome,
+    input: I,
+    out: O,
+    err: E,
+) -> Finished<I, O, E>
+    ensures tells { Tells (line_of outcome.said file.now (string_bytes outcome.name)) (status_of_answer outcome.said) result.status (E.written err) (E.written result.err) (E.faults err) (E.faults result.err) }
+    ensures later { E.faults err ≤ E.faults result.err }
+    ensures report { result.report ≡ outcome.report }
+    ensures input { result.input ≡ input }
+    ensures out { result.out ≡ out }
+{
+    let mut err = err;
+    let Outcome { said, report, name } = outcome;
+    match tell(&mut err, said, file, name.as_str()) {
+        Ok(()) => Finished {
+            status: status_of(said),
+            report,
+            input,
+            out,
+            err,
+        },
+        Err(Failed) => Finished {
+            status: Status::Write,
+            report,
+            input,
+            out,
+            err,
+        },
+    }
+}
+
+// Loads, compiles and runs a file.
+fn work<F: Folder, O: Sink>(alloc: Global, file: &str, folder: &mut F, out: &mut O) -> Outcome
+    ensures works { (words : List (List ℕ)) → file_of_words words ≡ Some file.now → (input : List ℕ) → Works words (F.holds folder.old) file.now (F.faults folder.old) (F.faults folder.new) input (O.written out.old) (O.written out.new) (O.faults out.old) (O.faults out.new) result.said result.report (string_bytes result.name) }
+    ensures kept { F.holds folder.new ≡ F.holds folder.old }
+    ensures folder_later { F.faults folder.old ≤ F.faults folder.new }
+    ensures out_later { O.faults out.old ≤ O.faults out.new }
+{
+    let mut bytes = Vec::new(alloc);
+    match folder.load(file, LONGEST_FILE, &mut bytes) {
+        Ok(()) => build(alloc, &bytes, out),
+        Err(LoadErr::Missing) => unbuilt(alloc, Answer::Missing),
+        Err(LoadErr::TooLong) => unbuilt(alloc, Answer::TooLong),
+        Err(LoadErr::Failed) => unbuilt(alloc, Answer::LoadFault),
+        Err(LoadErr::Memory) => unbuilt(alloc, Answer::Memory),
+    }
+}
+
+// An outcome without a run.
+fn unbuilt(alloc: Global, said: Answer) -> Outcome
+    ensures said { result.said ≡ said }
+    ensures report { result.report ≡ None }
+{
+    Outcome {
+        said,
+        report: None,
+        name: String::new(alloc),
+    }
+}
+
+// Compiles and runs the bytes of a file.
+fn build<O: Sink>(alloc: Global, bytes: &[u8], out: &mut O) -> Outcome
+    ensures built { (input : List ℕ) → Built bytes.now input (O.written out.old) (O.written out.new) (O.faults out.old) (O.faults out.new) result.said result.report (string_bytes result.name) }
+    ensures later { O.faults out.old ≤ O.faults out.new }
+{
+    match read_program(alloc, bytes) {
+        Ok(program) => match run_program(alloc, &program, out) {
+            Some(report) => named(alloc, report),
+            None => unbuilt(alloc, Answer::Memory),
+        },
+        Err(ReadErr::Refused) => unbuilt(alloc, Answer::Refused),
+        Err(ReadErr::Memory) => unbuilt(alloc, Answer::Memory),
+    }
+}

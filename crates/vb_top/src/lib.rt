@@ -1,0 +1,14 @@
+//! The whole of `vbrun`: the words, a file, its compilation, its run, and what is told of it.
+#![tactic(auto)]
+
+mod call;
+mod outcome;
+mod running;
+mod telling;
+mod words;
+
+pub use call::{vb_command, vb_top};
+pub use outcome::{Finished, Report};
+
+#[cfg(test)]
+mod tests;
