@@ -2,3 +2,4 @@ pub mod Code
 pub mod Machine
 pub mod Shapes
 pub mod Local
+pub mod Failing
