@@ -34,7 +34,16 @@ fn main(rt: HostRuntime) -> ExitCode {
         inner: rt.stdout(),
         faults: 0,
     };
-    let finished = vb_top(&rt, rt.alloc(), &words, &mut folder, input, out, err, &OpenGate);
+    let finished = vb_top(
+        &rt,
+        rt.alloc(),
+        &words,
+        &mut folder,
+        input,
+        out,
+        err,
+        &OpenGate,
+    );
     ExitCode::from(finished.status.code())
 }
 
