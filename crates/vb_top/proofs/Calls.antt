@@ -174,3 +174,13 @@ finished left written faults words told told_after file fb fn bytes input input_
 
 pub same_count : (n : ℕ) → n ≤ n
 same_count n = omega arith
+
+-- where there is no memory for the line of a refusal, want of memory is told
+pub no_line : (words : List (List ℕ)) (told : Option Files) (file : List ℕ) (fb fn : ℕ) (input : List ℕ) (old new : Option (List ℕ)) (b n : ℕ) (said after : Answer) (report kept : Option Report) (name other : List ℕ) → said ≡ Refused → after ≡ Memory → kept ≡ None → Works words told file fb fn input old new b n said report name → Works words told file fb fn input old new b n after kept other
+no_line words told file fb fn input old new b n said after report kept name other e f k works =
+    let told_so = of_refused report (subst (λ a. Works words told file fb fn input old new b n a report name) e works) in
+    subst (λ o. Works words told file fb fn input old new b n after o other) (sym k) (subst (λ a. Works words told file fb fn input old new b n a None other) (sym f) told_so)
+  where
+    of_refused : (r : Option Report) → Works words told file fb fn input old new b n Refused r name → Works words told file fb fn input old new b n Memory None other
+    of_refused None w = record { judged = w.judged.1.words_are; reported = refl; named = tt; least = tt; ran = w.ran }
+    of_refused (Some r) w = let no : Some r ≡ None = w.reported in absurd (cc)

@@ -2,6 +2,7 @@
 use Rattle.std.specs.Prelude.{◌≡◌, ◌⊎◌, ℕ, List, [], ◌++◌, Option, codes}
 use Rattle.std.specs.Fmt.{decimal}
 use Rattle.std.specs.Io.KnownBytes.{Appends}
+use Rattle.vb_diag.specs.Rules.{refusal_text}
 use Rattle.vb_io.specs.Causes.{Rose}
 use Rattle.vb_io.specs.Outside.{AppendsPart}
 use Rattle.vb_value.specs.declared.stop.Stop.{Stop}
@@ -45,9 +46,19 @@ line_of Usage file name = codes "usage: vbrun run FILE.. [--limit N] [--heap N] 
 line_of Missing file name = file ++ codes ": not found\n"
 line_of TooLong file name = file ++ codes ": longer than 4194304 bytes\n"
 line_of LoadFault file name = codes "read fault\n"
-line_of Refused file name = file ++ codes "(1): error V999: the form isn't built yet\n"
+line_of Refused file name = refusal_text file 1 999
 line_of Memory file name = codes "out of memory\n"
 line_of (Stopped stop) file name = line_of_stop stop name
+
+-- the line that tells a refusal of a file, where one is to be told
+abbrev pub IsRefusalLine : Answer → List ℕ → List ℕ → Type 0
+IsRefusalLine Usage file line = Unit {0}
+IsRefusalLine Missing file line = Unit {0}
+IsRefusalLine TooLong file line = Unit {0}
+IsRefusalLine LoadFault file line = Unit {0}
+IsRefusalLine Refused file line = line ≡ refusal_text file 1 999
+IsRefusalLine Memory file line = Unit {0}
+IsRefusalLine (Stopped stop) file line = Unit {0}
 
 -- The line is told and the status is the answer's; or a proper front of the line is, since the sink has failed, and the status is 9.
 abbrev pub Tells : List ℕ → Status → Status → Option (List ℕ) → Option (List ℕ) → ℕ → ℕ → Type 0

@@ -2,14 +2,14 @@
 ghost use Rattle.std.specs.Prelude.{◌≡◌, ◌≤◌, [], List, ℕ, map, string_bytes};
 ghost use Rattle.vb_io.specs.Files.{Files};
 ghost use Rattle.vb_top.specs.Words.{file_of_words};
-ghost use Rattle.vb_top.specs.Answers.{status_of as status_of_answer, line_of, Tells};
+ghost use Rattle.vb_top.specs.Answers.{status_of as status_of_answer, line_of, IsRefusalLine, Tells};
 ghost use Rattle.vb_top.specs.Headline.{MayBe, Built, Works, Headline, call_of};
 
 use crate::outcome::{Answer, Finished, Report};
 use crate::running::{Outcome, named, run_program};
-use crate::telling::{status_of, tell};
+use crate::telling::{refusal_of, status_of, tell};
 use crate::words::file_word;
-use std::alloc::Global;
+use std::alloc::{AllocError, Global};
 use std::sync::Wait;
 use std::thread::Threads;
 use vb_bind::read_program;
@@ -65,11 +65,21 @@ pub fn vb_command<F: Folder, I: Source, O: Sink, E: Sink>(
                 report: None,
                 name: String::new(alloc),
             };
-            finish("", usage, input, out, err)
+            finish("", usage, b"", input, out, err)
         }
         Some(file) => {
             let outcome = work(alloc, file, folder, &mut out);
-            finish(file, outcome, input, out, err)
+            match refusal_of(alloc, file, outcome.said) {
+                Ok(refusal) => finish(file, outcome, &refusal, input, out, err),
+                Err(AllocError) => finish(
+                    file,
+                    unbuilt(alloc, Answer::Memory),
+                    b"",
+                    input,
+                    out,
+                    err,
+                ),
+            }
         }
     }
 }
@@ -78,10 +88,12 @@ pub fn vb_command<F: Folder, I: Source, O: Sink, E: Sink>(
 fn finish<I: Source, O: Sink, E: Sink>(
     file: &str,
     outcome: Outcome,
+    refusal: &[u8],
     input: I,
     out: O,
     err: E,
 ) -> Finished<I, O, E>
+    requires { IsRefusalLine outcome.said file.now refusal.now }
     ensures tells { Tells (line_of outcome.said file.now (string_bytes outcome.name)) (status_of_answer outcome.said) result.status (E.written err) (E.written result.err) (E.faults err) (E.faults result.err) }
     ensures later { E.faults err ≤ E.faults result.err }
     ensures report { result.report ≡ outcome.report }
@@ -90,7 +102,7 @@ fn finish<I: Source, O: Sink, E: Sink>(
 {
     let mut err = err;
     let Outcome { said, report, name } = outcome;
-    match tell(&mut err, said, file, name.as_str()) {
+    match tell(&mut err, said, file, name.as_str(), refusal) {
         Ok(()) => Finished {
             status: status_of(said),
             report,
