@@ -1,8 +1,12 @@
 -- The parts of the whole call.
-use Rattle.std.proofs.Common.{◌≡◌, ◌⊎◌, inl, inr, ℕ, ◌≤◌, List, [], ◌++◌, length, Option, Some, None, refl, sym, ap, subst, ◌∙◌, arith}
+use Rattle.std.proofs.Common.{◌≡◌, ◌⊎◌, inl, inr, ℕ, ◌<◌, ◌≤◌, Bool, true, false, List, [], ◌++◌, length, Option, Some, None, refl, sym, ap, subst, ◌∙◌, arith}
 use Rattle.std.proofs.KnownBytes.{Keeps-refl}
 use Rattle.vb_io.specs.Causes.{Rose}
-use Rattle.vb_io.specs.Files.{Files, file_of, OfTold}
+use Rattle.vb_io.specs.Files.{Files, file_of, OfTold, Loads}
+use Rattle.vb_io.specs.declared.LoadErr.{LoadErr}
+use Rattle.vb_io.specs.declared.LoadErr.TheVariants.{Failed}
+use Rattle.std.specs.Prelude.{Err, nat_le}
+use Rattle.std.proofs.lemmas.Bool.Decides.{nat_tests}
 use Rattle.vb_value.specs.declared.stop.Stop.TheVariants.{Ended, Uncaught, HeapLimit, TurnLimit, WriteFault, Memory as NoMemory}
 use Rattle.vb_value.specs.declared.stop.Status.{Status}
 use Rattle.vb_value.specs.declared.stop.Status.TheVariants.{Write}
@@ -15,7 +19,7 @@ use Rattle.vb_top.specs.declared.outcome.Report.{Report}
 use Rattle.vb_top.specs.Words.{file_of_words}
 use Rattle.vb_top.specs.Answers.{Tells, line_of, status_of}
 use Rattle.vb_top.specs.Reports.{RanProgram}
-use Rattle.vb_top.specs.Headline.{longest_file, Call, MayBe, IsLoaded, Judged, IsReported, TellsRun, Built, Works, IsProper, Headline, Complete, call_of}
+use Rattle.vb_top.specs.Headline.{longest_file, Call, MayBe, IsLoaded, MayBeHad, Judged, IsReported, TellsRun, Built, Works, IsProper, Headline, Complete, call_of}
 
 pub loaded : (words : List (List ℕ)) (told : Option Files) (file got items bytes : List ℕ) → file_of_words words ≡ Some file → got ≡ [] ++ bytes → items ≡ got → length bytes ≤ longest_file → OfTold told (λ files. file_of files file ≡ Some bytes) → IsLoaded words told file items
 loaded words told file got items bytes w e f len found =
@@ -184,3 +188,22 @@ no_line words told file fb fn input old new b n said after report kept name othe
     of_refused : (r : Option Report) → Works words told file fb fn input old new b n Refused r name → Works words told file fb fn input old new b n Memory None other
     of_refused None w = record { judged = w.judged.1.words_are; reported = refl; named = tt; least = tt; ran = w.ran }
     of_refused (Some r) w = let no : Some r ≡ None = w.reported in absurd (cc)
+
+-- a load that has failed is that of a file that can be had
+pub could_be_had : (told : Option Files) (file : List ℕ) (before now : ℕ) (reason : LoadErr) (old new : List ℕ) → reason ≡ Failed → Loads told file longest_file before now (Err reason) old new → OfTold told (λ files. MayBeHad files file)
+could_be_had told file before now reason old new e loads = with_failed (subst (λ r. Loads told file longest_file before now (Err r) old new) e loads)
+  where
+    with_failed : Loads told file longest_file before now (Err Failed) old new → OfTold told (λ files. MayBeHad files file)
+    with_failed l = λ files k. by_file l files k (file_of files file) refl
+      where
+        by_length : Loads told file longest_file before now (Err Failed) old new → (files : Files) → told ≡ Some files → (bytes : List ℕ) → file_of files file ≡ Some bytes → (b : Bool) → nat_le (length bytes) longest_file ≡ b → MayBeHad files file
+        by_length l files k bytes f true t = let le : length bytes ≤ longest_file = grind (arith, nat_tests, t) in (bytes, f, le)
+        by_length l files k bytes f false t = let lt : longest_file < length bytes = grind (arith, nat_tests, t) in let no = l.longer files k bytes f lt in absurd (cc)
+
+        by_file : Loads told file longest_file before now (Err Failed) old new → (files : Files) → told ≡ Some files → (o : Option (List ℕ)) → file_of files file ≡ o → MayBeHad files file
+        by_file l files k None f = let no = l.absent files k f in absurd (cc)
+        by_file l files k (Some bytes) f = by_length l files k bytes f (nat_le (length bytes) longest_file) refl
+
+pub failed_works : (words : List (List ℕ)) (told : Option Files) (file : List ℕ) (fb fn : ℕ) (input : List ℕ) (old : Option (List ℕ)) (b : ℕ) (said : Answer) (report : Option Report) (name : List ℕ) → file_of_words words ≡ Some file → Rose fb fn → OfTold told (λ files. MayBeHad files file) → said ≡ LoadFault → report ≡ None → Works words told file fb fn input old old b b said report name
+failed_works words told file fb fn input old b said report name w rose had e k =
+    subst (λ o. Works words told file fb fn input old old b b said o name) (sym k) (subst (λ a. Works words told file fb fn input old old b b a None name) (sym e) (record { judged = (w, rose, had); reported = refl; named = tt; least = tt; ran = Keeps-refl old }))

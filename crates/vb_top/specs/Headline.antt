@@ -80,12 +80,16 @@ pub record IsLoaded (words : List (List ℕ)) (told : Option Files) (file bytes 
 
 -- WORDS AND FILES
 
+-- the file is there and not too long
+abbrev pub MayBeHad : Files → List ℕ → Type 0
+MayBeHad files file = (bytes : List ℕ) × (file_of files file ≡ Some bytes) × (length bytes ≤ longest_file)
+
 -- when an answer may come, by the words, the folder's files and its count of faults
 abbrev pub Judged : List (List ℕ) → Option Files → ℕ → ℕ → List ℕ → Answer → Type 0
 Judged words told before now file Usage = file_of_words words ≡ None
 Judged words told before now file Missing = (file_of_words words ≡ Some file) × OfTold told (λ files. file_of files file ≡ None)
 Judged words told before now file TooLong = (file_of_words words ≡ Some file) × OfTold told (λ files. (bytes : List ℕ) × (file_of files file ≡ Some bytes) × (longest_file < length bytes))
-Judged words told before now file LoadFault = (file_of_words words ≡ Some file) × Rose before now
+Judged words told before now file LoadFault = (file_of_words words ≡ Some file) × Rose before now × OfTold told (λ files. MayBeHad files file)
 Judged words told before now file Refused = (bytes : List ℕ) × IsLoaded words told file bytes
 Judged words told before now file Memory = file_of_words words ≡ Some file
 Judged words told before now file (Stopped stop) = (bytes : List ℕ) × IsLoaded words told file bytes
@@ -115,7 +119,7 @@ IsNameOf None name = Unit {0}
 IsNameOf (Some r) name = IsNameIn r r.stop name
 
 -- Usage comes exactly where the words are no command, a file's answer exactly where it isn't there or is too long, and a
--- read fault only where the folder's count rose. The status and the line in err are the answer's. The folder keeps its files.
+-- read fault only of a file that is neither, and where the folder's count rose. The status and the line in err are the answer's. The folder keeps its files.
 pub record WordsAndFiles (call : Call) (said : Answer) (file name : List ℕ) : Type 0 where
   pub judged : Judged call.words call.files call.folder_before call.folder_now file said
   pub reported : IsReported said call.report
