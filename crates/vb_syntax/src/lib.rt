@@ -1,6 +1,35 @@
-//! The tokens of a line of Visual Basic, and why a text isn't read.
+//! The tokens of Visual Basic, the logical lines that they form, and the syntax trees of those.
 #![tactic(auto)]
 
+mod declaration;
+mod declarator;
+mod expression;
+mod keyword;
+mod statement;
+mod symbol;
 mod tokens;
+mod types;
 
-pub use tokens::{ReadErr, Spelling, Symbol, Token};
+pub use declaration::{
+    Access, ClassBase, ClassModifier, DelegateKind, EventAccessor, EventHandler, FunctionKind,
+    GetAccessor, ImplementedMember, ImportsStatement, InterfaceHeader, InterfaceList,
+    InterfaceMember, Member, MemberForm, MethodSignature, Modifier, NameModifier, OptionSetting,
+    OptionStatement, OptionSwitch, Parameter, PassedBy, PropertyAccessors, PropertyKind,
+    SetAccessor, SourceFile, TypeDeclaration, TypeForm,
+};
+pub use declarator::{Declarator, DeclaratorForm, VariableIdentifier, VariableModifier};
+pub use expression::{
+    BinaryOperator, CastOperator, Expr, RelationalOperator, UnaryOperator, VariableInitializer,
+};
+pub use keyword::Keyword;
+pub use statement::{
+    Block, BlockClause, CaseClause, CaseItem, CatchClause, CatchVariable, CompoundOperator,
+    ContinueKind, ElseIfClause, ExitKind, LocalModifier, LoopCondition, LoopControlVariable,
+    LoopTest, NextClause, OnErrorAction, ResumePlace, Statement, StatementForm, UsingResource,
+};
+pub use symbol::Symbol;
+pub use tokens::{IntegerLiteral, IntegerType, Line, Lines, Token};
+pub use types::{
+    BuiltInTypeName, PrimitiveTypeName, QualifiedTypeName, SimpleTypeName, TypeConstraint,
+    TypeName, TypeParameter,
+};

@@ -1,85 +1,60 @@
-// Tokens.
-ghost use Rattle.std.specs.Prelude.{◌≡◌, IfOk};
-ghost use Rattle.vb_syntax.specs.declared.tokens.ReadErr.TheVariants.{Memory};
+// Tokens and logical lines.
 
-use std::alloc::{AllocError, Global};
-use std::marker::Model;
+use crate::keyword::Keyword;
+use crate::symbol::Symbol;
+use sqlite_items::Items;
+use vb_text::{Name, Text};
 
-/// A word in lower case: names and keywords ignore case (Visual Basic Language Specification 11.0, 2.2).
-#[derive(Drop)]
-pub struct Spelling {
-    bytes: Vec<u8>,
-}
-
-impl Model for Spelling {
-    ghost use Rattle.std.specs.Prelude.{List, ℕ};
-
-    ghost Value = { List ℕ };
-
-    ghost view = { λ s. s.bytes.items };
-}
-
-impl Spelling {
-    /// The word of these bytes, which the caller has put into lower case.
-    pub fn new(bytes: Vec<u8>) -> Self
-        ensures { result ≡ bytes.items }
-    {
-        Spelling { bytes }
-    }
-
-    /// A copy of the word. It fails only where memory runs out.
-    pub fn copy(&self, alloc: Global) -> Result<Self, AllocError>
-        ensures { IfOk result (λ s. s ≡ self.now) }
-    {
-        Ok(Spelling {
-            bytes: Vec::from_slice(alloc, &self.bytes)?,
-        })
-    }
-
-    /// The bytes of the word.
-    pub fn bytes(&self) -> &[u8]
-        ensures { result.now ≡ self.now }
-    {
-        self.bytes.as_slice()
-    }
-}
-
-/// A separator or an operator (Visual Basic Language Specification 11.0, 2.5 and 2.6).
+/// The type of an integer literal (Visual Basic Language Specification 11.0, 2.4.2).
 #[derive(Clone, Copy, Debug, PartialEq, Eq)]
-pub enum Symbol {
-    Dot,
-    Open,
-    Close,
-    Equal,
-    Plus,
-    Minus,
-    Times,
-    Less,
-    LessOrEqual,
-    NotEqual,
-    Greater,
-    GreaterOrEqual,
+pub enum IntegerType {
+    Short,
+    UShort,
+    Integer,
+    UInteger,
+    Long,
+    ULong,
 }
 
-/// A token (Visual Basic Language Specification 11.0, 2): a name or a keyword, a decimal Integer literal, or a symbol.
+/// An integer literal. Its value is in the range of its type; it is below 0 only where it was written in base 16 or 8, as
+/// the bits of its type.
+#[derive(Clone, Copy, Debug, PartialEq, Eq)]
+pub struct IntegerLiteral {
+    pub kind: IntegerType,
+    pub value: i128,
+}
+
+/// A token (Visual Basic Language Specification 11.0, 2). It keeps what it means, from which a text of it can be written
+/// again: the case of a word and the base of a number are left out.
 #[derive(Drop)]
 pub enum Token {
-    Word(Spelling),
-    Number(i32),
-    Sign(Symbol),
+    /// A name; also a reserved word after a `.`.
+    Name(Name),
+    /// A name between brackets, which is never read as a word of the grammar.
+    EscapedName(Name),
+    /// A reserved word.
+    Keyword(Keyword),
+    /// An integer literal.
+    Integer(IntegerLiteral),
+    /// A string literal: the text between its quotes, in which a doubled quote is one.
+    Text(Text),
+    /// A character literal, a UTF-16 unit.
+    Char(u16),
+    /// A separator or an operator.
+    Symbol(Symbol),
 }
 
-/// Why a text wasn't read: it isn't of the grammar, or memory ran out before that was known.
-#[derive(Clone, Copy, Debug, PartialEq, Eq)]
-pub enum ReadErr {
-    Refused,
-    Memory,
+/// A logical line (Visual Basic Language Specification 11.0, 2.1): one physical line or several that are continued. It has
+/// from 1 to 4,096 tokens.
+#[derive(Drop)]
+pub struct Line {
+    /// The file, from 0 in the order in which the files were given.
+    pub file: u32,
+    /// The number of its first physical line, from 1.
+    pub number: u32,
+    /// The tokens, from left to right.
+    pub tokens: Items<Token>,
 }
 
-impl From<AllocError> for ReadErr {
-    ghost from_gives = { λ _ e. e ≡ Memory };
-
-    fn from(_: AllocError) -> Self {
-        ReadErr::Memory
-    }
-}
+/// The logical lines of a file that have tokens, in their order.
+pub type Lines = Items<Line>;
