@@ -1,7 +1,25 @@
-//! From the bytes of a file to the tokens of its lines.
+//! From the bytes of a file to its logical lines of tokens.
 #![tactic(auto)]
 
-mod lexer;
+mod characters;
+mod error;
+mod keywords;
+mod laws;
 mod lines;
+mod literals;
+mod numbers;
+mod piece;
+mod pieces;
+mod reader;
+mod region_lines;
+mod regions;
+mod symbols;
+mod token;
 
-pub use lines::token_lines;
+pub use error::LexErr;
+pub use laws::{lines_or_refusal, lines_stay, one_reading, one_refusal, one_table, pieces_spell};
+pub use lines::lex;
+pub use symbols::longest_symbol;
+
+#[cfg(test)]
+mod tests;

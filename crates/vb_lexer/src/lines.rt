@@ -1,96 +1,164 @@
-// The token lines of a file.
-ghost use Rattle.std.specs.Prelude.{◌≡◌, ◌<◌, ◌≤◌, [], ◌∷◌, ◌++◌, List, length, map, filter, Some, IfOk, OnOk};
-ghost use Rattle.vb_syntax.specs.declared.tokens.Token.{Token as OneToken};
-ghost use Rattle.vb_lexer.specs.Lines.{lines_of, SpellEach, is_some_token};
-ghost use Rattle.vb_lexer.specs.Reading.{before_newline, without_end};
-ghost use Rattle.vb_syntax.specs.Reading.{ReadsWith};
+// The logical lines of a file.
+ghost use Rattle.std.specs.Prelude.{◌≡◌, ◌⊎◌, ◌≤◌, ◌<◌, ◌+◌, ◌^◌, ◌-◌, ◌++◌, ◌∷◌, [], ℕ, Bool, true, List, length, take, drop, IfOk, OnOk, OnErr, Err, Some};
+ghost use Rattle.vb_text.specs.Names.{Extends};
+ghost use Rattle.vb_text.specs.Units.{most_units};
+ghost use Rattle.vb_diag.specs.declared.refusal.Refusal.{Refusal as OneRefusal};
+ghost use Rattle.vb_lexer.specs.declared.piece.Piece.TheVariants as form;
+ghost use Rattle.vb_lexer.specs.Tokens.{units_of};
+ghost use Rattle.vb_lexer.specs.Pieces.{Part};
+ghost use Rattle.vb_lexer.specs.Lines.{Item, items_from, mark_of, lines_in, with_piece, LexedFrom, Breaks};
+ghost use Rattle.vb_lexer.specs.Reader.{Reads, part, items_here};
+ghost use Rattle.vb_lexer.specs.Regions.{Tracks, AreBefore};
+ghost use Rattle.vb_lexer.specs.Progress.{Finishes, least_with, refusal_with};
 
-use crate::lexer::tokens_of;
+use crate::characters::{decoded, without_mark};
+use crate::error::LexErr;
+use crate::piece::{Before, Fault, Piece, rule_of};
+use crate::pieces::{behind_piece, piece_at};
+use crate::reader::{Broken, Reader, lesser};
+use crate::regions::Regions;
+use crate::token::token_of;
 use std::alloc::{AllocError, Global};
-use vb_syntax::{ReadErr, Token};
+use vb_diag::Refusal;
+use vb_syntax::Lines;
+use vb_text::NameTable;
 
-/// The tokens of each line that has some.
-pub fn token_lines(alloc: Global, bytes: &[u8]) -> Result<Vec<Vec<Token>>, ReadErr>
-    ensures read { IfOk result (λ v. (all : List (List OneToken)) × SpellEach (lines_of bytes.now) all × (map (λ l. l.items) v.items ≡ filter is_some_token all)) }
-    ensures only { (all : List (List OneToken)) → SpellEach (lines_of bytes.now) all → ReadsWith (λ v. map (λ l. l.items) v.items) result (Some (filter is_some_token all)) }
-{
-    let mut lines = Vec::new(alloc);
-    let mut rest = bytes;
-    while !rest.is_empty() {
-        let (line, behind) = first_line(rest);
-        rest = behind;
-        let tokens = match tokens_of(alloc, line) {
-            Ok(tokens) => tokens,
-            Err(reason) => return Err(reason),
-        };
-        if push_line(&mut lines, tokens).is_err() {
-            return Err(ReadErr::Memory);
+/// What was read of a file.
+#[derive(Drop)]
+pub struct Progress {
+    pub reader: Reader,
+    pub regions: Regions,
+    /// The number of the physical line.
+    pub number: u32,
+    /// Room for the spelling of a name.
+    pub word: String,
+}
+
+impl Progress {
+    fn new(alloc: Global, file: u32) -> Self
+        ensures reads { (table : List (List ℕ)) → Reads table result.reader [] }
+        ensures line { result.reader.line ≡ 1 }
+        ensures breaks { result.reader.breaks ≡ true }
+        ensures file { result.reader.file ≡ file }
+        ensures tracks { Tracks result.regions [] }
+        ensures number { result.number ≡ 1 }
+    {
+        Progress {
+            reader: Reader::new(alloc, file),
+            regions: Regions::new(),
+            number: 1,
+            word: String::new(alloc),
         }
     }
-    Ok(lines)
-}
 
-// Adds a line that has tokens.
-fn push_line(lines: &mut Vec<Vec<Token>>, tokens: Vec<Token>) -> Result<(), AllocError>
-    ensures { OnOk result (map (λ l. l.items) lines.new.items ≡ map (λ l. l.items) lines.old.items ++ filter is_some_token (tokens.items ∷ [])) }
-{
-    if tokens.is_empty() {
-        return Ok(());
-    }
-    lines.push(tokens)?;
-    Ok(())
-}
-
-// How many bytes are before the first newline.
-fn line_len(text: &[u8]) -> usize
-    ensures count { result ≡ length (before_newline text.now) }
-    ensures within { result ≤ length text.now }
-{
-    let mut count = 0;
-    for byte in text {
-        if *byte == b'\n' {
-            return count;
+    // A piece comes with its characters.
+    fn take(
+        &mut self,
+        alloc: Global,
+        names: &mut NameTable,
+        piece: Piece,
+        characters: &[Option<char>],
+    ) -> Result<(), AllocError>
+        requires number { self.old.number + 1 < 2 ^ 32 }
+        requires short { piece ≡ form.Text → length (units_of (take (length characters.now - 2) (drop 1 characters.now))) ≤ most_units }
+        ensures items { OnOk result ((more : List Part) → items_from self.old.number self.old.reader.line self.old.reader.breaks (part piece characters.now ∷ more)
+            ≡ items_here self.old.reader.line self.old.reader.breaks (part piece characters.now) ++ items_from self.new.number self.new.reader.line self.new.reader.breaks more) }
+        ensures reads { OnOk result ((later : List (List ℕ)) (items : List Item) → Extends later names.new → Reads later self.old.reader items
+            → Reads later self.new.reader (items ++ items_here self.old.reader.line self.old.reader.breaks (part piece characters.now))) }
+        ensures marks { OnOk result ((marks : List (ℕ × Bool)) → Tracks self.old.regions marks → ((piece ≡ form.RegionStart) ⊎ (piece ≡ form.RegionEnd) → AreBefore marks self.old.number)
+            → Tracks self.new.regions (marks ++ mark_of self.old.number piece)) }
+        ensures number { OnOk result (self.new.number ≡ self.old.number + lines_in piece) }
+        ensures file { self.new.reader.file ≡ self.old.reader.file }
+        ensures names { Extends names.new names.old }
+        ensures grown { OnOk result (names.new ≡ with_piece names.old piece characters.now) }
+    {
+        if let Some(token) = token_of(alloc, names, &mut self.word, piece, characters)? {
+            return self.reader.add_token(alloc, piece, token);
         }
-        count += 1;
-    }
-    count
-}
-
-// A line that a newline ends, without a carriage return.
-fn without_return(line: &[u8]) -> &[u8]
-    ensures { result.now ≡ without_end line.now }
-{
-    let Some((last, front)) = line.split_last() else {
-        return line;
-    };
-    if *last == b'\r' { front } else { line }
-}
-
-// The first line without its end, and what is behind it.
-fn first_line(text: &[u8]) -> (&[u8], &[u8])
-    requires { 0 < length text.now }
-    ensures lines { lines_of text.now ≡ result.0.now ∷ lines_of result.1.now }
-    ensures shorter { length result.1.now < length text.now }
-{
-    let len = line_len(text);
-    let (line, rest) = text.split_at(len);
-    match rest.split_first() {
-        None => (line, rest),
-        Some((_, behind)) => (without_return(line), behind),
-    }
-}
-
-#[cfg(test)]
-mod tests {
-    use super::*;
-    use std::test::Fail;
-
-    #[test]
-    fn reads_the_tokens_of_each_line(rt: HostRuntime) -> Result<(), Fail> {
-        let lines = token_lines(rt.alloc(), b" x1<=10 \r\n\t\n\nEnd\tWhile\r\n(a<>b)")?;
-        let counts: Vec<usize> = lines.iter().map(|line| line.len()).collect(rt.alloc())?;
-        assert_eq!(rt; counts.as_slice(), [3, 2, 5].as_slice());
-        assert!(rt; token_lines(rt.alloc(), b"a = b?").is_err());
+        match piece {
+            Piece::Fault(fault) => return self.reader.add_fault(alloc, fault),
+            Piece::RegionStart => self.regions.begin(self.number),
+            Piece::RegionEnd => self.regions.end(self.number),
+            Piece::Continuation => self.number += 1,
+            Piece::LineEnd => {
+                self.number += 1;
+                self.reader.end_line(self.number);
+            }
+            _ => {}
+        }
         Ok(())
     }
+
+    // The file has ended.
+    fn finish(self, alloc: Global) -> Result<Lines, LexErr>
+        ensures { (table : List (List ℕ)) (items : List Item) (marks : List (ℕ × Bool)) → Reads table self.reader items → Tracks self.regions marks → Finishes table self.reader.file items marks result }
+    {
+        let Progress {
+            mut reader,
+            regions,
+            ..
+        } = self;
+        reader.close(alloc)?;
+        let Reader {
+            file,
+            lines,
+            least,
+            ..
+        } = reader;
+        match least_of(least, regions.broken()) {
+            Some(broken) => Err(LexErr::Refused(refusal_of(file, broken))),
+            None => Ok(lines),
+        }
+    }
+}
+
+// The least of the rules that lines break, with the first line that breaks the rule of regions.
+fn least_of(least: Option<Broken>, region: Option<u32>) -> Option<Broken>
+    ensures { result ≡ least_with least region }
+{
+    match region {
+        Some(line) => lesser(least, line, Fault::Region),
+        None => least,
+    }
+}
+
+fn refusal_of(file: u32, broken: Broken) -> Refusal
+    ensures { result ≡ refusal_with file broken }
+{
+    Refusal {
+        rule: rule_of(broken.fault),
+        file,
+        line: broken.line,
+    }
+}
+
+/// The logical lines of a file, whose number is `file` (Visual Basic Language Specification 11.0, 2).
+///
+/// The bytes are UTF-8, at most 4,194,304 of them; a byte order mark at their front is passed over. The words that are
+/// names are added to `names`, which may have grown also where the answer is an error.
+///
+/// `Refused` comes exactly where the text breaks a lexical rule, with the least line in which one is broken and the least
+/// rule that is broken there. `Memory` is want of memory.
+pub fn lex(alloc: Global, file: u32, bytes: &[u8], names: &mut NameTable) -> Result<Lines, LexErr>
+    requires { length bytes.now ≤ 4194304 }
+    ensures lexed { IfOk result (λ lines. LexedFrom names.old names.new file bytes.now lines) }
+    ensures refused { (refusal : OneRefusal) → result ≡ Err (LexErr.Refused refusal) → (refusal.file ≡ file) × Breaks bytes.now refusal.line refusal.rule }
+    ensures names { Extends names.new names.old }
+{
+    let all = decoded(alloc, bytes)?;
+    let text = without_mark(&all);
+    let mut progress = Progress::new(alloc, file);
+    let mut before = Before {
+        line_front: true,
+        dot: false,
+    };
+    let mut rest = text;
+    while 0 < rest.len() {
+        let found = piece_at(before, rest);
+        let (characters, behind) = rest.split_at(found.length);
+        progress.take(alloc, names, found.piece, characters)?;
+        before = behind_piece(before, found.piece);
+        rest = behind;
+    }
+    progress.finish(alloc)
 }

@@ -1,0 +1,9 @@
+use Rattle.std.proofs.Common.{◌≡◌, ◌++◌, ◌-◌, length, drop}
+use Rattle.vb_lexer.specs.Tokens.{units_of}
+use Rattle.vb_lexer.proofs.literals.units_of.Given as goal
+
+abbrev pub invariant-loop-i : goal.invariant-loop-i
+invariant-loop-i l = l.units.items ++ units_of (drop l.i l.content) ≡ units_of l.content
+
+abbrev pub decreases-loop-i : goal.decreases-loop-i
+decreases-loop-i l = length l.content - l.i

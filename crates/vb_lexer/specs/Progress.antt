@@ -1,0 +1,49 @@
+-- How far a file was read.
+use Rattle.std.specs.Prelude.{◌≡◌, ◌⊎◌, ℕ, ◌+◌, ◌≤◌, Bool, true, if◌then◌else◌, List, ◌++◌, length, Option, Some, None, Result, Ok, Err}
+use Rattle.vb_diag.specs.declared.refusal.Refusal.{Refusal}
+use Rattle.vb_text.specs.Names.{Extends}
+use Rattle.vb_syntax.specs.declared.tokens.Line.{Line}
+use Rattle.vb_lexer.specs.declared.error.LexErr.{LexErr}
+use Rattle.vb_lexer.specs.declared.error.LexErr.TheVariants.{Refused, Memory}
+use Rattle.vb_lexer.specs.declared.piece.Before.{Before}
+use Rattle.vb_lexer.specs.declared.piece.Fault.TheVariants.{Region}
+use Rattle.vb_lexer.specs.declared.reader.Broken.{Broken}
+use Rattle.vb_lexer.specs.declared.lines.Progress.{Progress}
+use Rattle.vb_lexer.specs.Characters.{Character}
+use Rattle.vb_lexer.specs.Pieces.{Part, Falls, file_front}
+use Rattle.vb_lexer.specs.Lines.{Item, items_from, marks_from, grouped, AreLines, SomeLineBreaks, RegionBreaks, IsNotAfter, fault_rule, with_parts}
+use Rattle.vb_lexer.specs.Reader.{Reads, lesser_of}
+use Rattle.vb_lexer.specs.Regions.{Tracks, AreBefore}
+
+-- items and marks of a file break the rule in the line
+abbrev pub FileBreaks : List Item → List (ℕ × Bool) → ℕ → ℕ → Type 0
+FileBreaks items marks line rule = SomeLineBreaks (grouped items) line rule ⊎ ((rule ≡ 9) × RegionBreaks marks line)
+
+-- What was read of a text, and what is left of it; the table was another one before.
+pub record ReadTo (earlier table : List (List ℕ)) (text rest : List Character) (before : Before) (p : Progress) : Type 0 where
+  pub done : List Part
+  pub items : List Item
+  pub marks : List (ℕ × Bool)
+  pub falls : (more : List Part) → Falls before rest more → Falls file_front text (done ++ more)
+  pub items_are : (more : List Part) → items_from 1 1 true (done ++ more) ≡ items ++ items_from p.number p.reader.line p.reader.breaks more
+  pub marks_are : (more : List Part) → marks_from 1 (done ++ more) ≡ marks ++ marks_from p.number more
+  pub reads : (later : List (List ℕ)) → Extends later table → Reads later p.reader items
+  pub tracks : Tracks p.regions marks
+  pub behind : AreBefore marks (if before.line_front then p.number else p.number + 1)
+  pub bound : p.number + length rest ≤ length text + 1
+  pub names : table ≡ with_parts earlier done
+
+-- what the end of a file answers
+abbrev pub Finishes : List (List ℕ) → ℕ → List Item → List (ℕ × Bool) → Result (List Line) LexErr → Type 0
+Finishes table file items marks (Ok lines) = AreLines table file (grouped items) lines × ((line rule : ℕ) → FileBreaks items marks line rule → ⊥)
+Finishes table file items marks (Err (Refused r)) =
+    (r.file ≡ file) × FileBreaks items marks r.line r.rule × ((line rule : ℕ) → FileBreaks items marks line rule → IsNotAfter r.line r.rule line rule)
+Finishes table file items marks (Err Memory) = Unit {0}
+
+-- the least of the rules that lines break, with the first line that breaks the rule of regions
+abbrev pub least_with : Option Broken → Option ℕ → Option Broken
+least_with least None = least
+least_with least (Some line) = lesser_of least line Region
+
+abbrev pub refusal_with : ℕ → Broken → Refusal
+refusal_with file b = record { rule = fault_rule b.fault; file = file; line = b.line }

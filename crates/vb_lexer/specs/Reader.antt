@@ -1,0 +1,69 @@
+-- What a reader of pieces holds of the items that it has read.
+use Rattle.std.specs.Prelude.{◌≡◌, ℕ, Bool, true, false, ◌&&◌, ◌||◌, ◌==◌, nat_lt, nat_le, if◌then◌else◌, List, [], ◌∷◌, ◌++◌, length, Option, Some, None}
+use Rattle.vb_syntax.specs.declared.tokens.Token.{Token}
+use Rattle.vb_syntax.specs.declared.tokens.Line.{Line}
+use Rattle.vb_lexer.specs.declared.piece.Piece.{Piece}
+use Rattle.vb_lexer.specs.declared.piece.Fault.{Fault}
+use Rattle.vb_lexer.specs.declared.piece.Fault.TheVariants.{LongLine}
+use Rattle.vb_lexer.specs.declared.reader.Reader.{Reader}
+use Rattle.vb_lexer.specs.declared.reader.Broken.{Broken}
+use Rattle.vb_lexer.specs.Characters.{Character}
+use Rattle.vb_lexer.specs.Pieces.{Part}
+use Rattle.vb_lexer.specs.Lines.{Item, item, is_item, is_fault, goes_on, joined, grouped, AreTokens, AreLines, SomeLineBreaks, IsNotAfter, most_tokens, fault_rule}
+
+-- each item and the next are joined
+abbrev pub Chain : Item → List Item → Type 0
+Chain a [] = Unit {0}
+Chain a (b ∷ bs) = (joined a b ≡ true) × Chain b bs
+
+abbrev pub last_of : Item → List Item → Item
+last_of a [] = a
+last_of a (b ∷ bs) = last_of b bs
+
+-- the items are the logical line at hand
+abbrev pub IsHand : Reader → List Item → Type 0
+IsHand r [] = Unit {0}
+IsHand r (a ∷ hs) = Chain a hs × (r.start ≡ a.line) × (goes_on (last_of a hs).part.piece ≡ r.goes_on) × (is_fault (last_of a hs).part.piece ≡ false)
+
+-- the least of the broken rules, or that there is none
+abbrev pub IsLeast : (ℕ → ℕ → Type 0) → Option Broken → Type 0
+IsLeast broken None = (line rule : ℕ) → broken line rule → ⊥
+IsLeast broken (Some b) = broken b.line (fault_rule b.fault) × ((line rule : ℕ) → broken line rule → IsNotAfter b.line (fault_rule b.fault) line rule)
+
+-- The items that were read: logical lines that are whole, and the one at hand.
+pub record Reads (table : List (List ℕ)) (r : Reader) (items : List Item) : Type 0 where
+  pub whole : List (List Item)
+  pub hand : List Item
+  pub groups : (more : List Item) → grouped (items ++ more) ≡ whole ++ grouped (hand ++ more)
+  pub is_hand : IsHand r hand
+  pub tokens : AreTokens table hand r.tokens
+  pub lines : r.least ≡ None → AreLines table r.file whole r.lines
+  pub least : IsLeast (SomeLineBreaks whole) r.least
+
+-- a broken rule is told before, or is, another in a line
+abbrev pub told_first : Broken → ℕ → Fault → Bool
+told_first known line fault = nat_lt known.line line || (known.line == line && nat_le (fault_rule known.fault) (fault_rule fault))
+
+-- the lesser of two broken rules
+abbrev pub lesser_of : Option Broken → ℕ → Fault → Option Broken
+lesser_of None line fault = Some (record { line = line; fault = fault })
+lesser_of (Some least) line fault = if told_first least line fault then Some least else Some (record { line = line; fault = fault })
+
+-- the line of the tokens at hand, if it is one
+abbrev pub closed_line : ℕ → ℕ → List Token → List Line
+closed_line file start [] = []
+closed_line file start (t ∷ ts) = if nat_lt most_tokens (length (t ∷ ts)) then [] else record { file = file; number = start; tokens = t ∷ ts } ∷ []
+
+abbrev pub closed_least : Option Broken → ℕ → List Token → Option Broken
+closed_least least start ts = if nat_lt most_tokens (length ts) then lesser_of least start LongLine else least
+
+-- a line ends before an item
+abbrev pub parts_lines : Reader → Bool → Bool
+parts_lines r closes = r.breaks && (if r.goes_on then false else true) && (if closes then false else true)
+
+abbrev pub part : Piece → List Character → Part
+part p cs = record { piece = p; characters = cs }
+
+-- the item of a piece, if it is one
+abbrev pub items_here : ℕ → Bool → Part → List Item
+items_here line breaks p = if is_item p.piece then item p line breaks ∷ [] else []

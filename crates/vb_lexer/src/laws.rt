@@ -1,0 +1,38 @@
+// What callers' proofs may hold of the lines of a file.
+ghost use Rattle.std.specs.Prelude.{◌≡◌, ℕ, List};
+ghost use Rattle.vb_text.specs.Names.{AreApart, Extends};
+ghost use Rattle.vb_syntax.specs.declared.tokens.Line.{Line};
+ghost use Rattle.vb_lexer.specs.Characters.{Character};
+ghost use Rattle.vb_lexer.specs.Pieces.{Part, Falls, file_front, spelled};
+ghost use Rattle.vb_lexer.specs.Lines.{Lexed, LexedFrom, Breaks};
+
+/// A law for callers' proofs: a file is its logical lines in one way, so bytes have at most one list of lines with the
+/// names of a table. It does nothing.
+pub fn one_reading()
+    ensures { (table : List (List ℕ)) (file : ℕ) (bytes : List ℕ) (lines others : List Line) → AreApart table → Lexed table file bytes lines → Lexed table file bytes others → lines ≡ others }
+{}
+
+/// A law for callers' proofs: the names of a file are added to a table in one way. It does nothing.
+pub fn one_table()
+    ensures { (earlier table other : List (List ℕ)) (file other_file : ℕ) (bytes : List ℕ) (lines others : List Line) → LexedFrom earlier table file bytes lines → LexedFrom earlier other other_file bytes others → table ≡ other }
+{}
+
+/// A law for callers' proofs: a file that has logical lines breaks no rule. It does nothing.
+pub fn lines_or_refusal()
+    ensures { (table : List (List ℕ)) (file : ℕ) (bytes : List ℕ) (lines : List Line) (line rule : ℕ) → Lexed table file bytes lines → Breaks bytes line rule → ⊥ }
+{}
+
+/// A law for callers' proofs: one rule in one line is the least that a file breaks. It does nothing.
+pub fn one_refusal()
+    ensures { (bytes : List ℕ) (line rule other_line other_rule : ℕ) → Breaks bytes line rule → Breaks bytes other_line other_rule → (line ≡ other_line) × (rule ≡ other_rule) }
+{}
+
+/// A law for callers' proofs: put one after another, the pieces of a text spell it. It does nothing.
+pub fn pieces_spell()
+    ensures { (text : List Character) (parts : List Part) → Falls file_front text parts → spelled parts ≡ text }
+{}
+
+/// A law for callers' proofs: the lines of a file stay its lines when the table of names grows. It does nothing.
+pub fn lines_stay()
+    ensures { (table later : List (List ℕ)) (file : ℕ) (bytes : List ℕ) (lines : List Line) → Lexed table file bytes lines → Extends later table → Lexed later file bytes lines }
+{}
