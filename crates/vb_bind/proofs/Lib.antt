@@ -1,7 +1,6 @@
-pub mod OneOf
 pub mod Steps
 pub mod Blocks
-pub mod Tests
+pub mod Tokens
 pub mod OneLine
 pub mod Bodies
 pub mod Declared

@@ -1,16 +1,19 @@
 -- A line that is read is one of the grammar, and a line of the grammar is read.
 use Rattle.std.proofs.Common.{◌≡◌, inl, inr, ℕ, zero, suc, ◌+◌, ◌<◌, Bool, true, false, List, [], ◌∷◌, ◌++◌, length, Option, Some, None, refl, sym, ap, subst, ◌∙◌, arith}
-use Rattle.std.specs.Prelude.{bytes_eq, if◌then◌else◌, ◌&&◌, slice_get, unwrap_or, codes}
-use Rattle.vb_syntax.specs.declared.tokens.Symbol.TheVariants.{Dot, Open, Close, Equal, Plus, Minus, Times, Less, LessOrEqual, NotEqual, Greater, GreaterOrEqual}
+use Rattle.std.specs.Prelude.{if◌then◌else◌, ◌&&◌, slice_get, unwrap_or}
+use Rattle.vb_text.specs.declared.names.Name.{Name}
+use Rattle.vb_syntax.specs.declared.keyword.Keyword.{Keyword}
+use Rattle.vb_syntax.specs.declared.keyword.Keyword.TheVariants as word
+use Rattle.vb_syntax.specs.declared.symbol.Symbol.TheVariants as sign
 use Rattle.vb_syntax.specs.declared.tokens.Token.{Token}
-use Rattle.vb_syntax.specs.declared.tokens.Token.TheVariants.{Word, Number, Sign}
+use Rattle.vb_syntax.specs.declared.tokens.Token.TheVariants as token
 use Rattle.vb_bound.specs.declared.tree.LocalId.{LocalId}
 use Rattle.vb_bound.specs.declared.tree.Operand.{Operand}
-use Rattle.vb_bound.specs.declared.tree.Operand.TheVariants.{Local, Number as Literal}
+use Rattle.vb_bound.specs.declared.tree.Operand.TheVariants.{Local, Number}
 use Rattle.vb_bound.specs.declared.tree.Operator.{Operator}
 use Rattle.vb_bound.specs.declared.tree.Operator.TheVariants.{Add, Sub, Mul}
 use Rattle.vb_bound.specs.declared.tree.Relation.{Relation}
-use Rattle.vb_bound.specs.declared.tree.Relation.TheVariants.{Equal as IsEqual, NotEqual as IsNotEqual, Less as IsLess, LessOrEqual as IsLessOrEqual, Greater as IsGreater, GreaterOrEqual as IsGreaterOrEqual}
+use Rattle.vb_bound.specs.declared.tree.Relation.TheVariants.{Equal, NotEqual, Less, LessOrEqual, Greater, GreaterOrEqual}
 use Rattle.vb_bound.specs.declared.tree.Expr.{Expr}
 use Rattle.vb_bound.specs.declared.tree.Expr.TheVariants.{One, Two}
 use Rattle.vb_bound.specs.declared.tree.Condition.{Condition}
@@ -18,270 +21,292 @@ use Rattle.vb_bound.specs.declared.tree.Statement.TheVariants.{Assign, WriteLine
 use Rattle.vb_bound.specs.declared.tree.Line.{Line}
 use Rattle.vb_bound.specs.declared.tree.Line.TheVariants.{Does, While, EndWhile}
 use Rattle.vb_bound.specs.Tree.{IsOperandOf, IsExprOf, IsLineOf}
-use Rattle.vb_bind.specs.Grammar.{operand_token, operator_sign, relation_sign, expr_tokens, line_tokens, IsIn, AreDistinctNames, AreMixed, IsMixedExpr, IsMixedLine}
-use Rattle.vb_bind.specs.Parsing.{and_then, is_word_token, is_sign_token, local_from, local_operand, operand_read, operator_read, relation_read, are_mixed, two_operands, condition_operands, two_read, condition_read, expr_read, closed_read, is_pair, assign_read, write_read, while_read, end_read, call_read, worded_read, line_read}
-use Rattle.vb_bind.proofs.Tests.{by_test, same_bytes, bytes_same, then_is, if_is, and_is, word_is, sign_is, other_bytes}
+use Rattle.vb_bind.specs.declared.names.KnownNames.{KnownNames}
+use Rattle.vb_bind.specs.Grammar.{name_at, operand_token, operator_sign, relation_sign, expr_tokens, line_tokens, IsIn, AreDistinctNames, AreMixed, IsMixedExpr, IsMixedLine, IsFit, IsFitExpr, IsFitLine}
+use Rattle.vb_bind.specs.Parsing.{and_then, named, is_keyword_token, is_symbol_token, is_name_token, same_name, number_read, local_from, local_read, operand_read, operator_read, relation_read, are_mixed, two_operands, condition_operands, two_read, condition_read, expr_read, closed_read, is_pair, assign_read, write_read, while_read, end_read, call_read, worded_read, line_read}
+use Rattle.vb_bind.proofs.Tokens.{by_test, then_is, if_is, and_is, same_is, same_self, is_same, others, keyword_is, symbol_is, named_is, name_is, number_is, integer_made}
+
+-- no operator has two numbers, and each number is an Integer
+abbrev pub IsGoodExpr : Expr → Type 0
+IsGoodExpr e = IsMixedExpr e × IsFitExpr e
+
+abbrev pub IsGoodLine : Line → Type 0
+IsGoodLine l = IsMixedLine l × IsFitLine l
 
 -- READ AND SO OF THE GRAMMAR
 
-pub local_sound : (i : ℕ) (ns : List (List ℕ)) (s : List ℕ) (x : LocalId) → local_from i ns s ≡ Some x → (k : ℕ) × (x.0 ≡ i + k) × (slice_get ns k ≡ Some s)
+pub local_sound : (i : ℕ) (ns : List Name) (s : Name) (x : LocalId) → local_from i ns s ≡ Some x → (k : ℕ) × (x.0 ≡ i + k) × (slice_get ns k ≡ Some s)
 local_sound i [] s x e = absurd cc
 local_sound i (n ∷ ns) s x e =
-    by_test (bytes_eq n s) _
-    (λ h. let here : ◌≡◌ {A = Option LocalId} (Some (record { 0 = i })) (Some x) = rw h at e in let same : ◌≡◌ {A = LocalId} (record { 0 = i }) x = cc in let is : i ≡ x.0 = ap (λ (y : LocalId). y.0) same in (0, omega (arith, is), ap (λ y. Some y) (same_bytes n s h)))
+    by_test (same_name n s) _
+    (λ h. let here : ◌≡◌ {A = Option LocalId} (Some (record { 0 = i })) (Some x) = rw h at e in let same : ◌≡◌ {A = LocalId} (record { 0 = i }) x = cc in let is : i ≡ x.0 = ap (λ (y : LocalId). y.0) same in (0, omega (arith, is), ap (λ y. Some y) (same_is n s h)))
     (λ h. let more = local_sound (i + 1) ns s x (rw h at e) in (suc more.0, omega (arith, more.1), more.2))
 
-pub operand_sound : (names : List (List ℕ)) (t : Token) (p : Operand) → operand_read names t ≡ Some p → t ≡ operand_token names p
-operand_sound names (Word s) p e = by_local (local_from 0 names s) refl e
-  where
-    by_local : (o : Option LocalId) → local_from 0 names s ≡ o → local_operand o ≡ Some p → Word s ≡ operand_token names p
-    by_local None h e = absurd cc
-    by_local (Some x) h e =
-        let found = local_sound 0 names s x h in
-        let is : x.0 ≡ found.0 = omega (arith, found.1) in
-        let part : Local x ≡ p = cc in
-        let got : slice_get names x.0 ≡ Some s = ap (λ k. slice_get names k) is ∙ found.2 in
-        ap (λ o. Word (unwrap_or o [])) (sym got) ∙ ap (λ q. operand_token names q) part
-operand_sound names (Number v) p e = let is : Literal v ≡ p = cc in ap (λ q. operand_token names q) is
-operand_sound names (Sign s) p e = absurd cc
+pub named_sound : (names : List Name) (t : Token) (x : LocalId) → local_read names t ≡ Some x → t ≡ operand_token names (Local x)
+named_sound names t x e =
+    let n = then_is (named t) (λ n. local_from 0 names n) x e in
+    let found = local_sound 0 names n.0 x n.2 in
+    let is : x.0 ≡ found.0 = omega (arith, found.1) in
+    let got : slice_get names x.0 ≡ Some n.0 = ap (λ k. slice_get names k) is ∙ found.2 in
+    named_is t n.0 n.1 ∙ ap (λ o. token.Name (unwrap_or o (record { index = 0 }))) (sym got)
 
-pub operator_sound : (t : Token) (o : Operator) → operator_read t ≡ Some o → t ≡ Sign (operator_sign o)
-operator_sound (Sign Plus) o e = let is : Add ≡ o = cc in ap (λ x. Sign (operator_sign x)) is
-operator_sound (Sign Minus) o e = let is : Sub ≡ o = cc in ap (λ x. Sign (operator_sign x)) is
-operator_sound (Sign Times) o e = let is : Mul ≡ o = cc in ap (λ x. Sign (operator_sign x)) is
+number_sound : (names : List Name) (t : Token) (p : Operand) → and_then (number_read t) (λ v. Some (Number v)) ≡ Some p → (t ≡ operand_token names p) × IsFit p
+number_sound names t p e =
+    let v = then_is (number_read t) (λ v. Some (Number v)) p e in
+    let is : Number v.0 ≡ p = let m = v.2 in cc in
+    let n = number_is t v.0 v.1 in
+    (n.0 ∙ ap (λ q. operand_token names q) is, subst (λ q. IsFit q) is n.1)
+
+pub operand_sound : (names : List Name) (t : Token) (p : Operand) → operand_read names t ≡ Some p → (t ≡ operand_token names p) × IsFit p
+operand_sound names (token.Name s) p e =
+    let x = then_is (local_from 0 names s) (λ x. Some (Local x)) p e in
+    let is : Local x.0 ≡ p = let m = x.2 in cc in
+    (named_sound names (token.Name s) x.0 x.1 ∙ ap (λ q. operand_token names q) is, subst (λ q. IsFit q) is tt)
+operand_sound names t p e = number_sound names t p e
+
+pub operator_sound : (t : Token) (o : Operator) → operator_read t ≡ Some o → t ≡ token.Symbol (operator_sign o)
+operator_sound (token.Symbol sign.Plus) o e = let is : Add ≡ o = cc in ap (λ x. token.Symbol (operator_sign x)) is
+operator_sound (token.Symbol sign.Minus) o e = let is : Sub ≡ o = cc in ap (λ x. token.Symbol (operator_sign x)) is
+operator_sound (token.Symbol sign.Times) o e = let is : Mul ≡ o = cc in ap (λ x. token.Symbol (operator_sign x)) is
 operator_sound t o e = absurd cc
 
-pub relation_sound : (t : Token) (r : Relation) → relation_read t ≡ Some r → t ≡ Sign (relation_sign r)
-relation_sound (Sign Equal) r e = let is : IsEqual ≡ r = cc in ap (λ x. Sign (relation_sign x)) is
-relation_sound (Sign NotEqual) r e = let is : IsNotEqual ≡ r = cc in ap (λ x. Sign (relation_sign x)) is
-relation_sound (Sign Less) r e = let is : IsLess ≡ r = cc in ap (λ x. Sign (relation_sign x)) is
-relation_sound (Sign LessOrEqual) r e = let is : IsLessOrEqual ≡ r = cc in ap (λ x. Sign (relation_sign x)) is
-relation_sound (Sign Greater) r e = let is : IsGreater ≡ r = cc in ap (λ x. Sign (relation_sign x)) is
-relation_sound (Sign GreaterOrEqual) r e = let is : IsGreaterOrEqual ≡ r = cc in ap (λ x. Sign (relation_sign x)) is
+pub relation_sound : (t : Token) (r : Relation) → relation_read t ≡ Some r → t ≡ token.Symbol (relation_sign r)
+relation_sound (token.Symbol sign.Equal) r e = let is : Equal ≡ r = cc in ap (λ x. token.Symbol (relation_sign x)) is
+relation_sound (token.Symbol sign.NotEqual) r e = let is : NotEqual ≡ r = cc in ap (λ x. token.Symbol (relation_sign x)) is
+relation_sound (token.Symbol sign.Less) r e = let is : Less ≡ r = cc in ap (λ x. token.Symbol (relation_sign x)) is
+relation_sound (token.Symbol sign.LessOrEqual) r e = let is : LessOrEqual ≡ r = cc in ap (λ x. token.Symbol (relation_sign x)) is
+relation_sound (token.Symbol sign.Greater) r e = let is : Greater ≡ r = cc in ap (λ x. token.Symbol (relation_sign x)) is
+relation_sound (token.Symbol sign.GreaterOrEqual) r e = let is : GreaterOrEqual ≡ r = cc in ap (λ x. token.Symbol (relation_sign x)) is
 relation_sound t r e = absurd cc
 
 pub mixed_is : (a b : Operand) → are_mixed a b ≡ true → AreMixed a b
-mixed_is (Literal v) (Literal w) e = absurd cc
-mixed_is (Literal v) (Local x) e = tt
+mixed_is (Number v) (Number w) e = absurd cc
+mixed_is (Number v) (Local x) e = tt
 mixed_is (Local x) q e = tt
 
-pub two_is : (a : Operand) (o : Operator) (b : Operand) (e : Expr) → two_operands a o b ≡ Some e → (Two a o b ≡ e) × IsMixedExpr e
-two_is a o b e h =
+pub two_is : (a : Operand) (o : Operator) (b : Operand) (e : Expr) → IsFit a → IsFit b → two_operands a o b ≡ Some e → (Two a o b ≡ e) × IsGoodExpr e
+two_is a o b e f g h =
     let k = if_is (are_mixed a b) (Some (Two a o b)) e h in
     let is : Two a o b ≡ e = let m = k.1 in cc in
-    (is, subst (λ y. IsMixedExpr y) is (mixed_is a b k.0))
+    (is, subst (λ y. IsGoodExpr y) is (mixed_is a b k.0, (f, g)))
 
-pub two_sound : (names : List (List ℕ)) (p o q : Token) (e : Expr) → two_read names p o q ≡ Some e → (p ∷ o ∷ q ∷ [] ≡ expr_tokens names e) × IsMixedExpr e
+pub two_sound : (names : List Name) (p o q : Token) (e : Expr) → two_read names p o q ≡ Some e → (p ∷ o ∷ q ∷ [] ≡ expr_tokens names e) × IsGoodExpr e
 two_sound names p o q e h =
     let a = then_is (operand_read names p) _ e h in
     let f = then_is (operator_read o) _ e a.2 in
     let b = then_is (operand_read names q) _ e f.2 in
-    let is = two_is a.0 f.0 b.0 e b.2 in
     let one = operand_sound names p a.0 a.1 in
     let mid = operator_sound o f.0 f.1 in
     let two = operand_sound names q b.0 b.1 in
-    (ap (λ x. x ∷ o ∷ q ∷ []) one ∙ ap (λ x. operand_token names a.0 ∷ x ∷ q ∷ []) mid ∙ ap (λ x. operand_token names a.0 ∷ Sign (operator_sign f.0) ∷ x ∷ []) two ∙ ap (λ x. expr_tokens names x) is.0, is.1)
+    let is = two_is a.0 f.0 b.0 e one.1 two.1 b.2 in
+    (ap (λ x. x ∷ o ∷ q ∷ []) one.0 ∙ ap (λ x. operand_token names a.0 ∷ x ∷ q ∷ []) mid ∙ ap (λ x. operand_token names a.0 ∷ token.Symbol (operator_sign f.0) ∷ x ∷ []) two.0 ∙ ap (λ x. expr_tokens names x) is.0, is.1)
 
-pub condition_is : (a : Operand) (r : Relation) (b : Operand) (c : Condition) → condition_operands a r b ≡ Some c → (◌≡◌ {A = Condition} (record { left = a; relation = r; right = b }) c) × AreMixed c.left c.right
-condition_is a r b c h =
+abbrev pub IsGoodTest : Condition → Type 0
+IsGoodTest c = AreMixed c.left c.right × (IsFit c.left × IsFit c.right)
+
+pub condition_is : (a : Operand) (r : Relation) (b : Operand) (c : Condition) → IsFit a → IsFit b → condition_operands a r b ≡ Some c → (◌≡◌ {A = Condition} (record { left = a; relation = r; right = b }) c) × IsGoodTest c
+condition_is a r b c f g h =
     let k = if_is (are_mixed a b) (Some (record { left = a; relation = r; right = b })) c h in
     let is : ◌≡◌ {A = Condition} (record { left = a; relation = r; right = b }) c = let m = k.1 in cc in
-    (is, subst (λ (y : Condition). AreMixed y.left y.right) is (mixed_is a b k.0))
+    (is, subst (λ (y : Condition). IsGoodTest y) is (mixed_is a b k.0, (f, g)))
 
-pub condition_sound : (names : List (List ℕ)) (p o q : Token) (c : Condition) → condition_read names p o q ≡ Some c → (p ∷ o ∷ q ∷ [] ≡ operand_token names c.left ∷ Sign (relation_sign c.relation) ∷ operand_token names c.right ∷ []) × AreMixed c.left c.right
+pub condition_sound : (names : List Name) (p o q : Token) (c : Condition) → condition_read names p o q ≡ Some c → (p ∷ o ∷ q ∷ [] ≡ operand_token names c.left ∷ token.Symbol (relation_sign c.relation) ∷ operand_token names c.right ∷ []) × IsGoodTest c
 condition_sound names p o q c h =
     let a = then_is (operand_read names p) _ c h in
     let f = then_is (relation_read o) _ c a.2 in
     let b = then_is (operand_read names q) _ c f.2 in
-    let is = condition_is a.0 f.0 b.0 c b.2 in
     let one = operand_sound names p a.0 a.1 in
     let mid = relation_sound o f.0 f.1 in
     let two = operand_sound names q b.0 b.1 in
-    (ap (λ x. x ∷ o ∷ q ∷ []) one ∙ ap (λ x. operand_token names a.0 ∷ x ∷ q ∷ []) mid ∙ ap (λ x. operand_token names a.0 ∷ Sign (relation_sign f.0) ∷ x ∷ []) two ∙ ap (λ (x : Condition). operand_token names x.left ∷ Sign (relation_sign x.relation) ∷ operand_token names x.right ∷ []) is.0, is.1)
+    let is = condition_is a.0 f.0 b.0 c one.1 two.1 b.2 in
+    (ap (λ x. x ∷ o ∷ q ∷ []) one.0 ∙ ap (λ x. operand_token names a.0 ∷ x ∷ q ∷ []) mid ∙ ap (λ x. operand_token names a.0 ∷ token.Symbol (relation_sign f.0) ∷ x ∷ []) two.0 ∙ ap (λ (x : Condition). operand_token names x.left ∷ token.Symbol (relation_sign x.relation) ∷ operand_token names x.right ∷ []) is.0, is.1)
 
-pub one_sound : (names : List (List ℕ)) (p : Token) (e : Expr) → and_then (operand_read names p) (λ a. Some (One a)) ≡ Some e → (p ∷ [] ≡ expr_tokens names e) × IsMixedExpr e
+pub one_sound : (names : List Name) (p : Token) (e : Expr) → and_then (operand_read names p) (λ a. Some (One a)) ≡ Some e → (p ∷ [] ≡ expr_tokens names e) × IsGoodExpr e
 one_sound names p e h =
     let a = then_is (operand_read names p) (λ a. Some (One a)) e h in
     let is : One a.0 ≡ e = let k = a.2 in cc in
-    (ap (λ x. x ∷ []) (operand_sound names p a.0 a.1) ∙ ap (λ x. expr_tokens names x) is, subst (λ y. IsMixedExpr y) is tt)
+    let one = operand_sound names p a.0 a.1 in
+    (ap (λ x. x ∷ []) one.0 ∙ ap (λ x. expr_tokens names x) is, subst (λ y. IsGoodExpr y) is (tt, one.1))
 
-pub expr_sound : (names : List (List ℕ)) (ts : List Token) (e : Expr) → expr_read names ts ≡ Some e → (ts ≡ expr_tokens names e) × IsMixedExpr e
+pub expr_sound : (names : List Name) (ts : List Token) (e : Expr) → expr_read names ts ≡ Some e → (ts ≡ expr_tokens names e) × IsGoodExpr e
 expr_sound names [] e h = absurd cc
 expr_sound names (p ∷ []) e h = one_sound names p e h
 expr_sound names (p ∷ o ∷ []) e h = absurd cc
 expr_sound names (p ∷ o ∷ q ∷ []) e h = two_sound names p o q e h
 expr_sound names (p ∷ o ∷ q ∷ r ∷ ts) e h = absurd cc
 
-pub closed_sound : (names : List (List ℕ)) (ts : List Token) (e : Expr) → closed_read names ts ≡ Some e → (ts ≡ expr_tokens names e ++ Sign Close ∷ []) × IsMixedExpr e
+pub closed_sound : (names : List Name) (ts : List Token) (e : Expr) → closed_read names ts ≡ Some e → (ts ≡ expr_tokens names e ++ token.Symbol sign.CloseParenthesis ∷ []) × IsGoodExpr e
 closed_sound names [] e h = absurd cc
 closed_sound names (p ∷ []) e h = absurd cc
 closed_sound names (p ∷ z ∷ []) e h =
-    let k = if_is (is_sign_token z Close) _ e h in
+    let k = if_is (is_symbol_token z sign.CloseParenthesis) _ e h in
     let is = one_sound names p e k.1 in
-    (ap (λ x. p ∷ x ∷ []) (sign_is z Close k.0) ∙ ap (λ l. l ++ Sign Close ∷ []) is.0, is.1)
+    (ap (λ x. p ∷ x ∷ []) (symbol_is z sign.CloseParenthesis k.0) ∙ ap (λ l. l ++ token.Symbol sign.CloseParenthesis ∷ []) is.0, is.1)
 closed_sound names (p ∷ o ∷ q ∷ []) e h = absurd cc
 closed_sound names (p ∷ o ∷ q ∷ z ∷ []) e h =
-    let k = if_is (is_sign_token z Close) _ e h in
+    let k = if_is (is_symbol_token z sign.CloseParenthesis) _ e h in
     let is = two_sound names p o q e k.1 in
-    (ap (λ x. p ∷ o ∷ q ∷ x ∷ []) (sign_is z Close k.0) ∙ ap (λ l. l ++ Sign Close ∷ []) is.0, is.1)
+    (ap (λ x. p ∷ o ∷ q ∷ x ∷ []) (symbol_is z sign.CloseParenthesis k.0) ∙ ap (λ l. l ++ token.Symbol sign.CloseParenthesis ∷ []) is.0, is.1)
 closed_sound names (p ∷ o ∷ q ∷ z ∷ r ∷ ts) e h = absurd cc
 
-pub assign_sound : (names : List (List ℕ)) (a b : Token) (ts : List Token) (l : Line) → is_sign_token b Equal ≡ true → assign_read names a ts ≡ Some l → (a ∷ b ∷ ts ≡ line_tokens names l) × IsMixedLine l
-assign_sound names (Word s) b ts l sign h =
-    let x = then_is (local_from 0 names s) (λ x. and_then (expr_read names ts) (λ e. Some (Does (Assign x e)))) l h in
+pub assign_sound : (known : KnownNames) (names : List Name) (a b : Token) (ts : List Token) (l : Line) → is_symbol_token b sign.Equal ≡ true → assign_read names a ts ≡ Some l → (a ∷ b ∷ ts ≡ line_tokens known names l) × IsGoodLine l
+assign_sound known names a b ts l equal h =
+    let x = then_is (local_read names a) (λ x. and_then (expr_read names ts) (λ e. Some (Does (Assign x e)))) l h in
     let e = then_is (expr_read names ts) (λ e. Some (Does (Assign x.0 e))) l x.2 in
     let is : Does (Assign x.0 e.0) ≡ l = let k = e.2 in cc in
     let tokens = expr_sound names ts e.0 e.1 in
-    let target = operand_sound names (Word s) (Local x.0) (ap local_operand x.1) in
-    (ap (λ t. t ∷ b ∷ ts) target ∙ ap (λ t. operand_token names (Local x.0) ∷ t ∷ ts) (sign_is b Equal sign) ∙ ap (λ r. operand_token names (Local x.0) ∷ Sign Equal ∷ r) tokens.0 ∙ ap (λ y. line_tokens names y) is, subst (λ y. IsMixedLine y) is tokens.1)
-assign_sound names (Number v) b ts l sign h = absurd cc
-assign_sound names (Sign s) b ts l sign h = absurd cc
+    (ap (λ t. t ∷ b ∷ ts) (named_sound names a x.0 x.1) ∙ ap (λ t. operand_token names (Local x.0) ∷ t ∷ ts) (symbol_is b sign.Equal equal) ∙ ap (λ r. operand_token names (Local x.0) ∷ token.Symbol sign.Equal ∷ r) tokens.0 ∙ ap (λ y. line_tokens known names y) is, subst (λ y. IsGoodLine y) is tokens.1)
 
-pub write_sound : (names : List (List ℕ)) (ts : List Token) (l : Line) → write_read names ts ≡ Some l → (e : Expr) × (l ≡ Does (WriteLine e)) × (ts ≡ Word (codes "writeline") ∷ Sign Open ∷ (expr_tokens names e ++ Sign Close ∷ [])) × IsMixedExpr e
-write_sound names [] l h = absurd cc
-write_sound names (a ∷ []) l h = absurd cc
-write_sound names (a ∷ b ∷ ts) l h =
-    let k = if_is (is_word_token a (codes "writeline") && is_sign_token b Open) _ l h in
-    let both = and_is (is_word_token a (codes "writeline")) (is_sign_token b Open) k.0 in
+pub write_sound : (known : KnownNames) (names : List Name) (ts : List Token) (l : Line) → write_read known names ts ≡ Some l → (e : Expr) × (l ≡ Does (WriteLine e)) × (ts ≡ token.Name known.write_line ∷ token.Symbol sign.OpenParenthesis ∷ (expr_tokens names e ++ token.Symbol sign.CloseParenthesis ∷ [])) × IsGoodExpr e
+write_sound known names [] l h = absurd cc
+write_sound known names (a ∷ []) l h = absurd cc
+write_sound known names (a ∷ b ∷ ts) l h =
+    let k = if_is (is_name_token a known.write_line && is_symbol_token b sign.OpenParenthesis) _ l h in
+    let both = and_is (is_name_token a known.write_line) (is_symbol_token b sign.OpenParenthesis) k.0 in
     let e = then_is (closed_read names ts) (λ e. Some (Does (WriteLine e))) l k.1 in
     let is : l ≡ Does (WriteLine e.0) = let m = e.2 in cc in
     let tokens = closed_sound names ts e.0 e.1 in
-    (e.0, is, ap (λ t. t ∷ b ∷ ts) (word_is a (codes "writeline") both.0) ∙ ap (λ t. Word (codes "writeline") ∷ t ∷ ts) (sign_is b Open both.1) ∙ ap (λ r. Word (codes "writeline") ∷ Sign Open ∷ r) tokens.0, tokens.1)
+    (e.0, is, ap (λ t. t ∷ b ∷ ts) (name_is a known.write_line both.0) ∙ ap (λ t. token.Name known.write_line ∷ t ∷ ts) (symbol_is b sign.OpenParenthesis both.1) ∙ ap (λ r. token.Name known.write_line ∷ token.Symbol sign.OpenParenthesis ∷ r) tokens.0, tokens.1)
 
-pub while_sound : (names : List (List ℕ)) (ts : List Token) (l : Line) → while_read names ts ≡ Some l → (Word (codes "while") ∷ ts ≡ line_tokens names l) × IsMixedLine l
-while_sound names [] l h = absurd cc
-while_sound names (p ∷ []) l h = absurd cc
-while_sound names (p ∷ o ∷ []) l h = absurd cc
-while_sound names (p ∷ o ∷ q ∷ []) l h =
+pub while_sound : (known : KnownNames) (names : List Name) (ts : List Token) (l : Line) → while_read names ts ≡ Some l → (token.Keyword word.While ∷ ts ≡ line_tokens known names l) × IsGoodLine l
+while_sound known names [] l h = absurd cc
+while_sound known names (p ∷ []) l h = absurd cc
+while_sound known names (p ∷ o ∷ []) l h = absurd cc
+while_sound known names (p ∷ o ∷ q ∷ []) l h =
     let c = then_is (condition_read names p o q) (λ c. Some (While c)) l h in
     let is : While c.0 ≡ l = let k = c.2 in cc in
     let tokens = condition_sound names p o q c.0 c.1 in
-    (ap (λ r. Word (codes "while") ∷ r) tokens.0 ∙ ap (λ y. line_tokens names y) is, subst (λ y. IsMixedLine y) is tokens.1)
-while_sound names (p ∷ o ∷ q ∷ r ∷ ts) l h = absurd cc
+    (ap (λ r. token.Keyword word.While ∷ r) tokens.0 ∙ ap (λ y. line_tokens known names y) is, subst (λ y. IsGoodLine y) is tokens.1)
+while_sound known names (p ∷ o ∷ q ∷ r ∷ ts) l h = absurd cc
 
-pub pair_sound : (l : List Token) (v w : List ℕ) → is_pair l v w ≡ true → l ≡ Word v ∷ Word w ∷ []
+pub pair_sound : (l : List Token) (v w : Keyword) → is_pair l v w ≡ true → l ≡ token.Keyword v ∷ token.Keyword w ∷ []
 pair_sound [] v w e = absurd cc
 pair_sound (a ∷ []) v w e = absurd cc
-pair_sound (a ∷ b ∷ []) v w e = let both = and_is (is_word_token a v) (is_word_token b w) e in ap (λ x. x ∷ b ∷ []) (word_is a v both.0) ∙ ap (λ x. Word v ∷ x ∷ []) (word_is b w both.1)
+pair_sound (a ∷ b ∷ []) v w e = let both = and_is (is_keyword_token a v) (is_keyword_token b w) e in ap (λ x. x ∷ b ∷ []) (keyword_is a v both.0) ∙ ap (λ x. token.Keyword v ∷ x ∷ []) (keyword_is b w both.1)
 pair_sound (a ∷ b ∷ c ∷ l) v w e = absurd cc
 
-pub end_sound : (names : List (List ℕ)) (ts : List Token) (l : Line) → end_read ts ≡ Some l → (ts ≡ line_tokens names l) × IsMixedLine l
-end_sound names ts l h =
-    let k = if_is (is_pair ts (codes "end") (codes "while")) (Some EndWhile) l h in
+pub end_sound : (known : KnownNames) (names : List Name) (ts : List Token) (l : Line) → end_read ts ≡ Some l → (ts ≡ line_tokens known names l) × IsGoodLine l
+end_sound known names ts l h =
+    let k = if_is (is_pair ts word.End word.While) (Some EndWhile) l h in
     let is : EndWhile ≡ l = let m = k.1 in cc in
-    (pair_sound ts (codes "end") (codes "while") k.0 ∙ ap (λ y. line_tokens names y) is, subst (λ y. IsMixedLine y) is tt)
+    (pair_sound ts word.End word.While k.0 ∙ ap (λ y. line_tokens known names y) is, subst (λ y. IsGoodLine y) is (tt, tt))
 
 -- one of two readings, by a test
 pub either : (b : Bool) (x y : Option Line) (l : Line) (P : Type 0) → (if b then x else y) ≡ Some l → (b ≡ true → x ≡ Some l → P) → (b ≡ false → y ≡ Some l → P) → P
 either true x y l P h f g = f refl h
 either false x y l P h f g = g refl h
 
-pub call_sound : (names : List (List ℕ)) (a : Token) (ts : List Token) (l : Line) → call_read names a ts ≡ Some l → (a ∷ ts ≡ line_tokens names l) × IsMixedLine l
-call_sound names a [] l h = end_sound names (a ∷ []) l h
-call_sound names a (b ∷ ts) l h =
-    either (is_word_token a (codes "console") && is_sign_token b Dot) (write_read names ts) (end_read (a ∷ b ∷ ts)) l ((a ∷ b ∷ ts ≡ line_tokens names l) × IsMixedLine l) h
-    (λ k m. let both = and_is (is_word_token a (codes "console")) (is_sign_token b Dot) k in
-    let w = write_sound names ts l m in
-    (ap (λ t. t ∷ b ∷ ts) (word_is a (codes "console") both.0) ∙ ap (λ t. Word (codes "console") ∷ t ∷ ts) (sign_is b Dot both.1) ∙ ap (λ r. Word (codes "console") ∷ Sign Dot ∷ r) w.2 ∙ ap (λ y. line_tokens names y) (sym w.1), subst (λ y. IsMixedLine y) (sym w.1) w.3))
-    (λ k m. end_sound names (a ∷ b ∷ ts) l m)
+pub call_sound : (known : KnownNames) (names : List Name) (a : Token) (ts : List Token) (l : Line) → call_read known names a ts ≡ Some l → (a ∷ ts ≡ line_tokens known names l) × IsGoodLine l
+call_sound known names a [] l h = end_sound known names (a ∷ []) l h
+call_sound known names a (b ∷ ts) l h =
+    either (is_name_token a known.console && is_symbol_token b sign.Dot) (write_read known names ts) (end_read (a ∷ b ∷ ts)) l ((a ∷ b ∷ ts ≡ line_tokens known names l) × IsGoodLine l) h
+    (λ k m. let both = and_is (is_name_token a known.console) (is_symbol_token b sign.Dot) k in
+    let w = write_sound known names ts l m in
+    (ap (λ t. t ∷ b ∷ ts) (name_is a known.console both.0) ∙ ap (λ t. token.Name known.console ∷ t ∷ ts) (symbol_is b sign.Dot both.1) ∙ ap (λ r. token.Name known.console ∷ token.Symbol sign.Dot ∷ r) w.2 ∙ ap (λ y. line_tokens known names y) (sym w.1), subst (λ y. IsGoodLine y) (sym w.1) w.3))
+    (λ k m. end_sound known names (a ∷ b ∷ ts) l m)
 
-pub worded_sound : (names : List (List ℕ)) (ts : List Token) (l : Line) → worded_read names ts ≡ Some l → (ts ≡ line_tokens names l) × IsMixedLine l
-worded_sound names [] l h = absurd cc
-worded_sound names (a ∷ ts) l h =
-    either (is_word_token a (codes "while")) (while_read names ts) (call_read names a ts) l ((a ∷ ts ≡ line_tokens names l) × IsMixedLine l) h
-    (λ k m. let w = while_sound names ts l m in (ap (λ t. t ∷ ts) (word_is a (codes "while") k) ∙ w.0, w.1))
-    (λ k m. call_sound names a ts l m)
+pub worded_sound : (known : KnownNames) (names : List Name) (ts : List Token) (l : Line) → worded_read known names ts ≡ Some l → (ts ≡ line_tokens known names l) × IsGoodLine l
+worded_sound known names [] l h = absurd cc
+worded_sound known names (a ∷ ts) l h =
+    either (is_keyword_token a word.While) (while_read names ts) (call_read known names a ts) l ((a ∷ ts ≡ line_tokens known names l) × IsGoodLine l) h
+    (λ k m. let w = while_sound known names ts l m in (ap (λ t. t ∷ ts) (keyword_is a word.While k) ∙ w.0, w.1))
+    (λ k m. call_sound known names a ts l m)
 
-pub line_sound : (names : List (List ℕ)) (ts : List Token) (l : Line) → line_read names ts ≡ Some l → (ts ≡ line_tokens names l) × IsMixedLine l
-line_sound names [] l h = absurd cc
-line_sound names (a ∷ []) l h = absurd cc
-line_sound names (a ∷ b ∷ ts) l h =
-    either (is_sign_token b Equal) (assign_read names a ts) (worded_read names (a ∷ b ∷ ts)) l ((a ∷ b ∷ ts ≡ line_tokens names l) × IsMixedLine l) h
-    (λ k m. assign_sound names a b ts l k m)
-    (λ k m. worded_sound names (a ∷ b ∷ ts) l m)
+pub line_sound : (known : KnownNames) (names : List Name) (ts : List Token) (l : Line) → line_read known names ts ≡ Some l → (ts ≡ line_tokens known names l) × IsGoodLine l
+line_sound known names [] l h = absurd cc
+line_sound known names (a ∷ []) l h = absurd cc
+line_sound known names (a ∷ b ∷ ts) l h =
+    either (is_symbol_token b sign.Equal) (assign_read names a ts) (worded_read known names (a ∷ b ∷ ts)) l ((a ∷ b ∷ ts ≡ line_tokens known names l) × IsGoodLine l) h
+    (λ k m. assign_sound known names a b ts l k m)
+    (λ k m. worded_sound known names (a ∷ b ∷ ts) l m)
 
 -- OF THE GRAMMAR AND SO READ
 
-pub get_some : (ns : List (List ℕ)) (x : ℕ) → x < length ns → (s : List ℕ) × (slice_get ns x ≡ Some s)
+pub get_some : (ns : List Name) (x : ℕ) → x < length ns → (s : Name) × (slice_get ns x ≡ Some s)
 get_some [] x lt = absurd (omega arith)
 get_some (n ∷ ns) zero lt = (n, refl)
 get_some (n ∷ ns) (suc x) lt = get_some ns x (omega arith)
 
-pub get_in : (ns : List (List ℕ)) (k : ℕ) (s : List ℕ) → slice_get ns k ≡ Some s → IsIn s ns
+pub get_in : (ns : List Name) (k : ℕ) (s : Name) → slice_get ns k ≡ Some s → IsIn s ns
 get_in [] k s e = absurd cc
 get_in (n ∷ ns) zero s e = let is : s ≡ n = cc in inl is
 get_in (n ∷ ns) (suc k) s e = inr (get_in ns k s e)
 
-pub local_made : (i : ℕ) (ns : List (List ℕ)) (s : List ℕ) (k : ℕ) → AreDistinctNames ns → slice_get ns k ≡ Some s → local_from i ns s ≡ Some (record { 0 = i + k })
-local_made i [] s k d e = absurd cc
-local_made i (n ∷ ns) s zero d e =
+pub local_made : (known : KnownNames) (i : ℕ) (ns : List Name) (s : Name) (k : ℕ) → AreDistinctNames known ns → slice_get ns k ≡ Some s → local_from i ns s ≡ Some (record { 0 = i + k })
+local_made known i [] s k d e = absurd cc
+local_made known i (n ∷ ns) s zero d e =
     let is : n ≡ s = cc in
     let at : i ≡ i + 0 = omega arith in
-    rw (bytes_same n s is) (ap (λ (x : ℕ). Some (record { 0 = x })) at)
-local_made i (n ∷ ns) s (suc k) d e =
+    rw (is_same n s is) (ap (λ (x : ℕ). Some (record { 0 = x })) at)
+local_made known i (n ∷ ns) s (suc k) d e =
     let other : n ≡ s → ⊥ = λ is. d.1 (subst (λ x. IsIn x ns) (sym is) (get_in ns k s e)) in
     let at : i + 1 + k ≡ i + suc k = omega arith in
-    rw (other_bytes n s other) (local_made (i + 1) ns s k d.2 e ∙ ap (λ (x : ℕ). Some (record { 0 = x })) at)
+    rw (others n s other) (local_made known (i + 1) ns s k d.2 e ∙ ap (λ (x : ℕ). Some (record { 0 = x })) at)
 
-pub target_made : (names : List (List ℕ)) (x : LocalId) → AreDistinctNames names → x.0 < length names → local_from 0 names (unwrap_or (slice_get names x.0) []) ≡ Some x
-target_made names x d lt =
+pub target_made : (known : KnownNames) (names : List Name) (x : LocalId) → AreDistinctNames known names → x.0 < length names → local_from 0 names (name_at names x) ≡ Some x
+target_made known names x d lt =
     let got = get_some names x.0 lt in
     let at : 0 + x.0 ≡ x.0 = omega arith in
-    ap (λ o. local_from 0 names (unwrap_or o [])) got.1 ∙ local_made 0 names got.0 x.0 d got.1 ∙ ap (λ (k : ℕ). Some (record { 0 = k })) at
+    ap (λ o. local_from 0 names (unwrap_or o (record { index = 0 }))) got.1 ∙ local_made known 0 names got.0 x.0 d got.1 ∙ ap (λ (k : ℕ). Some (record { 0 = k })) at
 
-pub operand_made : (names : List (List ℕ)) (p : Operand) → AreDistinctNames names → IsOperandOf (length names) p → operand_read names (operand_token names p) ≡ Some p
-operand_made names (Local x) d lt = ap local_operand (target_made names x d lt)
-operand_made names (Literal v) d lt = refl
+pub operand_made : (known : KnownNames) (names : List Name) (p : Operand) → AreDistinctNames known names → IsOperandOf (length names) p → IsFit p → operand_read names (operand_token names p) ≡ Some p
+operand_made known names (Local x) d lt fit = ap (λ o. and_then o (λ y. Some (Local y))) (target_made known names x d lt)
+operand_made known names (Number v) d lt fit = ap (λ o. and_then o (λ w. Some (Number w))) (integer_made v fit)
 
-pub operator_made : (o : Operator) → operator_read (Sign (operator_sign o)) ≡ Some o
+pub operator_made : (o : Operator) → operator_read (token.Symbol (operator_sign o)) ≡ Some o
 operator_made Add = refl
 operator_made Sub = refl
 operator_made Mul = refl
 
-pub relation_made : (r : Relation) → relation_read (Sign (relation_sign r)) ≡ Some r
-relation_made IsEqual = refl
-relation_made IsNotEqual = refl
-relation_made IsLess = refl
-relation_made IsLessOrEqual = refl
-relation_made IsGreater = refl
-relation_made IsGreaterOrEqual = refl
+pub relation_made : (r : Relation) → relation_read (token.Symbol (relation_sign r)) ≡ Some r
+relation_made Equal = refl
+relation_made NotEqual = refl
+relation_made Less = refl
+relation_made LessOrEqual = refl
+relation_made Greater = refl
+relation_made GreaterOrEqual = refl
 
 pub mixed_test : (a b : Operand) → AreMixed a b → are_mixed a b ≡ true
-mixed_test (Literal v) (Literal w) m = absurd m
-mixed_test (Literal v) (Local x) m = refl
+mixed_test (Number v) (Number w) m = absurd m
+mixed_test (Number v) (Local x) m = refl
 mixed_test (Local x) q m = refl
 
 pub two_kept : (a : Operand) (o : Operator) (b : Operand) → AreMixed a b → two_operands a o b ≡ Some (Two a o b)
 two_kept a o b m = ap (λ (p : Bool). if p then Some (Two a o b) else None) (mixed_test a b m)
 
-pub condition_made : (names : List (List ℕ)) (c : Condition) → AreDistinctNames names → IsOperandOf (length names) c.left → IsOperandOf (length names) c.right → AreMixed c.left c.right → condition_read names (operand_token names c.left) (Sign (relation_sign c.relation)) (operand_token names c.right) ≡ Some c
-condition_made names c d a b m =
-    ap (λ o. and_then o (λ x. and_then (relation_read (Sign (relation_sign c.relation))) (λ f. and_then (operand_read names (operand_token names c.right)) (λ y. condition_operands x f y)))) (operand_made names c.left d a)
+pub condition_made : (known : KnownNames) (names : List Name) (c : Condition) → AreDistinctNames known names → IsOperandOf (length names) c.left → IsOperandOf (length names) c.right → IsGoodTest c → condition_read names (operand_token names c.left) (token.Symbol (relation_sign c.relation)) (operand_token names c.right) ≡ Some c
+condition_made known names c d a b m =
+    ap (λ o. and_then o (λ x. and_then (relation_read (token.Symbol (relation_sign c.relation))) (λ f. and_then (operand_read names (operand_token names c.right)) (λ y. condition_operands x f y)))) (operand_made known names c.left d a m.1.0)
     ∙ ap (λ o. and_then o (λ f. and_then (operand_read names (operand_token names c.right)) (λ y. condition_operands c.left f y))) (relation_made c.relation)
-    ∙ ap (λ o. and_then o (λ y. condition_operands c.left c.relation y)) (operand_made names c.right d b)
-    ∙ ap (λ (p : Bool). if p then Some c else None) (mixed_test c.left c.right m)
+    ∙ ap (λ o. and_then o (λ y. condition_operands c.left c.relation y)) (operand_made known names c.right d b m.1.1)
+    ∙ ap (λ (p : Bool). if p then Some c else None) (mixed_test c.left c.right m.0)
 
-pub two_made : (names : List (List ℕ)) (p : Operand) (o : Operator) (q : Operand) → AreDistinctNames names → IsOperandOf (length names) p → IsOperandOf (length names) q → AreMixed p q → two_read names (operand_token names p) (Sign (operator_sign o)) (operand_token names q) ≡ Some (Two p o q)
-two_made names p o q d a b m = rw (operand_made names p d a, operator_made o, operand_made names q d b) (two_kept p o q m)
+pub two_made : (known : KnownNames) (names : List Name) (p : Operand) (o : Operator) (q : Operand) → AreDistinctNames known names → IsOperandOf (length names) p → IsOperandOf (length names) q → IsGoodExpr (Two p o q) → two_read names (operand_token names p) (token.Symbol (operator_sign o)) (operand_token names q) ≡ Some (Two p o q)
+two_made known names p o q d a b m = rw (operand_made known names p d a m.1.0, operator_made o, operand_made known names q d b m.1.1) (two_kept p o q m.0)
 
-pub expr_made : (names : List (List ℕ)) (e : Expr) → AreDistinctNames names → IsExprOf (length names) e → IsMixedExpr e → expr_read names (expr_tokens names e) ≡ Some e
-expr_made names (One p) d a m = ap (λ o. and_then o (λ x. Some (One x))) (operand_made names p d a)
-expr_made names (Two p o q) d a m = two_made names p o q d a.0 a.1 m
+pub expr_made : (known : KnownNames) (names : List Name) (e : Expr) → AreDistinctNames known names → IsExprOf (length names) e → IsGoodExpr e → expr_read names (expr_tokens names e) ≡ Some e
+expr_made known names (One p) d a m = ap (λ o. and_then o (λ x. Some (One x))) (operand_made known names p d a m.1)
+expr_made known names (Two p o q) d a m = two_made known names p o q d a.0 a.1 m
 
-pub closed_made : (names : List (List ℕ)) (e : Expr) → AreDistinctNames names → IsExprOf (length names) e → IsMixedExpr e → closed_read names (expr_tokens names e ++ Sign Close ∷ []) ≡ Some e
-closed_made names (One p) d a m = ap (λ o. and_then o (λ x. Some (One x))) (operand_made names p d a)
-closed_made names (Two p o q) d a m = two_made names p o q d a.0 a.1 m
+pub closed_made : (known : KnownNames) (names : List Name) (e : Expr) → AreDistinctNames known names → IsExprOf (length names) e → IsGoodExpr e → closed_read names (expr_tokens names e ++ token.Symbol sign.CloseParenthesis ∷ []) ≡ Some e
+closed_made known names (One p) d a m = ap (λ o. and_then o (λ x. Some (One x))) (operand_made known names p d a m.1)
+closed_made known names (Two p o q) d a m = two_made known names p o q d a.0 a.1 m
 
-pub operand_not_equal : (names : List (List ℕ)) (p : Operand) → is_sign_token (operand_token names p) Equal ≡ false
+pub operand_not_equal : (names : List Name) (p : Operand) → is_symbol_token (operand_token names p) sign.Equal ≡ false
 operand_not_equal names (Local x) = refl
-operand_not_equal names (Literal v) = refl
+operand_not_equal names (Number v) = refl
 
-pub line_made : (names : List (List ℕ)) (l : Line) → AreDistinctNames names → IsLineOf (length names) l → IsMixedLine l → line_read names (line_tokens names l) ≡ Some l
-line_made names (Does (Assign x e)) d a m =
-    ap (λ o. and_then o (λ y. and_then (expr_read names (expr_tokens names e)) (λ z. Some (Does (Assign y z))))) (target_made names x d a.0)
-    ∙ ap (λ o. and_then o (λ z. Some (Does (Assign x z)))) (expr_made names e d a.1 m)
-line_made names (Does (WriteLine e)) d a m = ap (λ o. and_then o (λ z. Some (Does (WriteLine z)))) (closed_made names e d a m)
-line_made names (While c) d a m =
-    ap (λ (p : Bool). if p then assign_read names (Word (codes "while")) (Sign (relation_sign c.relation) ∷ operand_token names c.right ∷ []) else worded_read names (line_tokens names (While c))) (operand_not_equal names c.left)
-    ∙ ap (λ o. and_then o (λ z. Some (While z))) (condition_made names c d a.0 a.1 m)
-line_made names EndWhile d a m = refl
+pub line_made : (known : KnownNames) (names : List Name) (l : Line) → AreDistinctNames known names → IsLineOf (length names) l → IsGoodLine l → line_read known names (line_tokens known names l) ≡ Some l
+line_made known names (Does (Assign x e)) d a m =
+    ap (λ o. and_then o (λ y. and_then (expr_read names (expr_tokens names e)) (λ z. Some (Does (Assign y z))))) (target_made known names x d a.0)
+    ∙ ap (λ o. and_then o (λ z. Some (Does (Assign x z)))) (expr_made known names e d a.1 m)
+line_made known names (Does (WriteLine e)) d a m =
+    let ts : List Token = expr_tokens names e ++ token.Symbol sign.CloseParenthesis ∷ [] in
+    let all : List Token = line_tokens known names (Does (WriteLine e)) in
+    ap (λ (p : Bool). if p && true then write_read known names (token.Name known.write_line ∷ token.Symbol sign.OpenParenthesis ∷ ts) else end_read all) (same_self known.console)
+    ∙ ap (λ (p : Bool). if p && true then and_then (closed_read names ts) (λ z. Some (Does (WriteLine z))) else None) (same_self known.write_line)
+    ∙ ap (λ o. and_then o (λ z. Some (Does (WriteLine z)))) (closed_made known names e d a m)
+line_made known names (While c) d a m =
+    ap (λ (p : Bool). if p then assign_read names (token.Keyword word.While) (token.Symbol (relation_sign c.relation) ∷ operand_token names c.right ∷ []) else worded_read known names (line_tokens known names (While c))) (operand_not_equal names c.left)
+    ∙ ap (λ o. and_then o (λ z. Some (While z))) (condition_made known names c d a.0 a.1 m)
+line_made known names EndWhile d a m = refl

@@ -1,20 +1,21 @@
 -- The steps of reading token lines.
 use Rattle.std.proofs.Common.{◌≡◌, ℕ, ◌+◌, ◌<◌, Bool, true, false, List, [], ◌∷◌, ◌++◌, length, Option, Some, None, refl, sym, ap, subst, ◌∙◌, arith}
-use Rattle.std.specs.Prelude.{bytes_eq, ◌==◌, if◌then◌else◌, not, ◌||◌}
-use Rattle.std.specs.List.{list_any}
+use Rattle.std.specs.Prelude.{◌==◌, if◌then◌else◌}
+use Rattle.vb_text.specs.declared.names.Name.{Name}
 use Rattle.vb_syntax.specs.declared.tokens.Token.{Token}
 use Rattle.vb_bound.specs.declared.tree.Operand.{Operand}
 use Rattle.vb_bound.specs.declared.tree.Line.{Line}
 use Rattle.vb_bound.specs.Tree.{outline, IsInitialOf, IsLineOf, AreLocals, AreLines}
+use Rattle.vb_bind.specs.declared.names.KnownNames.{KnownNames}
 use Rattle.vb_bind.specs.Parsing.{and_then, is_ends, line_read, lines_read, dim_read, dim_or, is_new, dims_read, file_read, line_depth, depth_after}
 
-pub next_line : (names : List (List ℕ)) (locals : List (Option Operand)) (lines grown : List Line) (depth next : ℕ) (rest : List (List Token)) (l : List Token) (behind : List (List Token)) (x : Line) → rest ≡ l ∷ behind → is_ends rest ≡ false → line_read names l ≡ Some x → line_depth depth x ≡ Some next → grown ≡ lines ++ x ∷ [] → lines_read names locals lines depth rest ≡ lines_read names locals grown next behind
-next_line names locals lines grown depth next rest l behind x e ends read counted grows =
-    ap (λ r. lines_read names locals lines depth r) e
-    ∙ ap (λ (p : Bool). if p then (if depth == 0 then Some (outline locals lines) else None) else and_then (line_read names l) (λ y. and_then (line_depth depth y) (λ d. lines_read names locals (lines ++ y ∷ []) d behind))) (ap is_ends (sym e) ∙ ends)
-    ∙ ap (λ o. and_then o (λ y. and_then (line_depth depth y) (λ d. lines_read names locals (lines ++ y ∷ []) d behind))) read
-    ∙ ap (λ o. and_then o (λ d. lines_read names locals (lines ++ x ∷ []) d behind)) counted
-    ∙ ap (λ g. lines_read names locals g next behind) (sym grows)
+pub next_line : (known : KnownNames) (names : List Name) (locals : List (Option Operand)) (lines grown : List Line) (depth next : ℕ) (rest : List (List Token)) (l : List Token) (behind : List (List Token)) (x : Line) → rest ≡ l ∷ behind → is_ends rest ≡ false → line_read known names l ≡ Some x → line_depth depth x ≡ Some next → grown ≡ lines ++ x ∷ [] → lines_read known names locals lines depth rest ≡ lines_read known names locals grown next behind
+next_line known names locals lines grown depth next rest l behind x e ends read counted grows =
+    ap (λ r. lines_read known names locals lines depth r) e
+    ∙ ap (λ (p : Bool). if p then (if depth == 0 then Some (outline locals lines) else None) else and_then (line_read known names l) (λ y. and_then (line_depth depth y) (λ d. lines_read known names locals (lines ++ y ∷ []) d behind))) (ap is_ends (sym e) ∙ ends)
+    ∙ ap (λ o. and_then o (λ y. and_then (line_depth depth y) (λ d. lines_read known names locals (lines ++ y ∷ []) d behind))) read
+    ∙ ap (λ o. and_then o (λ d. lines_read known names locals (lines ++ x ∷ []) d behind)) counted
+    ∙ ap (λ g. lines_read known names locals g next behind) (sym grows)
 
 pub depth_more : (depth : ℕ) (ls : List Line) (x : Line) (before after : ℕ) → depth_after depth ls ≡ Some before → line_depth before x ≡ Some after → depth_after depth (ls ++ x ∷ []) ≡ Some after
 depth_more depth [] x before after h k =
@@ -34,40 +35,39 @@ pub more_dims : (n : ℕ) (ds : List (Option Operand)) (d : Option Operand) → 
 more_dims n [] d h k = let e : n + 0 ≡ n = omega arith in (subst (λ m. IsInitialOf m d) e k, tt)
 more_dims n (x ∷ ds) d h k = let e : n + length (x ∷ ds) ≡ n + 1 + length ds = omega arith in (h.0, more_dims (n + 1) ds d h.1 (subst (λ m. IsInitialOf m d) e k))
 
-dim_next : (m : List ℕ) (names : List (List ℕ)) (dims : List (Option Operand)) (rest : List (List Token)) (l : List Token) (behind : List (List Token)) (s : List ℕ) (i : Option Operand) → rest ≡ l ∷ behind → dim_read names l ≡ Some (s, i) → dims_read m names dims rest ≡ (if is_new m names s then dims_read m (names ++ s ∷ []) (dims ++ i ∷ []) behind else None)
-dim_next m names dims rest l behind s i e read =
-    ap (λ r. dims_read m names dims r) e
-    ∙ ap (λ o. dim_or o (lines_read names dims [] 0 (l ∷ behind)) (λ s i. if is_new m names s then dims_read m (names ++ s ∷ []) (dims ++ i ∷ []) behind else None)) read
+dim_next : (known : KnownNames) (m : Name) (names : List Name) (dims : List (Option Operand)) (rest : List (List Token)) (l : List Token) (behind : List (List Token)) (s : Name) (i : Option Operand) → rest ≡ l ∷ behind → dim_read known names l ≡ Some (s, i) → dims_read known m names dims rest ≡ (if is_new m names s then dims_read known m (names ++ s ∷ []) (dims ++ i ∷ []) behind else None)
+dim_next known m names dims rest l behind s i e read =
+    ap (λ r. dims_read known m names dims r) e
+    ∙ ap (λ o. dim_or o (lines_read known names dims [] 0 (l ∷ behind)) (λ s i. if is_new m names s then dims_read known m (names ++ s ∷ []) (dims ++ i ∷ []) behind else None)) read
 
-new_is : (m : List ℕ) (names : List (List ℕ)) (s : List ℕ) → bytes_eq m s ≡ false → list_any (λ r. bytes_eq r s) names ≡ false → is_new m names s ≡ true
-new_is m names s e f = ap (λ (p : Bool). not (p || list_any (λ r. bytes_eq r s) names)) e ∙ ap not f
+pub dim_more : (known : KnownNames) (m : Name) (names grown : List Name) (dims more : List (Option Operand)) (rest : List (List Token)) (l : List Token) (behind : List (List Token)) (s : Name) (i : Option Operand) → rest ≡ l ∷ behind → dim_read known names l ≡ Some (s, i) → is_new m names s ≡ true → grown ≡ names ++ s ∷ [] → more ≡ dims ++ i ∷ [] → dims_read known m names dims rest ≡ dims_read known m grown more behind
+dim_more known m names grown dims more rest l behind s i e read new a b =
+    dim_next known m names dims rest l behind s i e read
+    ∙ ap (λ (p : Bool). if p then dims_read known m (names ++ s ∷ []) (dims ++ i ∷ []) behind else None) new
+    ∙ ap (λ n. dims_read known m n (dims ++ i ∷ []) behind) (sym a) ∙ ap (λ d. dims_read known m grown d behind) (sym b)
 
-pub dim_more : (m : List ℕ) (names grown : List (List ℕ)) (dims more : List (Option Operand)) (rest : List (List Token)) (l : List Token) (behind : List (List Token)) (s : List ℕ) (i : Option Operand) → rest ≡ l ∷ behind → dim_read names l ≡ Some (s, i) → is_new m names s ≡ true → grown ≡ names ++ s ∷ [] → more ≡ dims ++ i ∷ [] → dims_read m names dims rest ≡ dims_read m grown more behind
-dim_more m names grown dims more rest l behind s i e read new a b =
-    dim_next m names dims rest l behind s i e read
-    ∙ ap (λ (p : Bool). if p then dims_read m (names ++ s ∷ []) (dims ++ i ∷ []) behind else None) new
-    ∙ ap (λ n. dims_read m n (dims ++ i ∷ []) behind) (sym a) ∙ ap (λ d. dims_read m grown d behind) (sym b)
+pub short_file : (known : KnownNames) (ls : List (List Token)) → length ls < 3 → file_read known ls ≡ None
+short_file known [] h = refl
+short_file known (a ∷ []) h = refl
+short_file known (a ∷ b ∷ []) h = refl
+short_file known (a ∷ b ∷ c ∷ ls) h = absurd (omega arith)
 
-any_or : (x y : Bool) → ((x ≡ true) → not (x || y) ≡ false)
-any_or true y e = refl
-any_or false y e = absurd cc
+-- LINES OF ANOTHER LENGTH
 
-any_right : (x y : Bool) → y ≡ true → not (x || y) ≡ false
-any_right true y e = refl
-any_right false y e = ap not e
+pub short_line : (known : KnownNames) (names : List Name) (ts : List Token) → length ts < 2 → line_read known names ts ≡ None
+short_line known names [] h = refl
+short_line known names (a ∷ []) h = refl
+short_line known names (a ∷ b ∷ ts) h = absurd (omega arith)
 
-pub dim_known : (m : List ℕ) (names : List (List ℕ)) (dims : List (Option Operand)) (rest : List (List Token)) (l : List Token) (behind : List (List Token)) (s : List ℕ) (i : Option Operand) → rest ≡ l ∷ behind → dim_read names l ≡ Some (s, i) → is_new m names s ≡ false → dims_read m names dims rest ≡ None
-dim_known m names dims rest l behind s i e read h =
-    dim_next m names dims rest l behind s i e read ∙ ap (λ (p : Bool). if p then dims_read m (names ++ s ∷ []) (dims ++ i ∷ []) behind else None) h
+pub short_dim : (known : KnownNames) (names : List Name) (ts : List Token) → length ts < 4 → dim_read known names ts ≡ None
+short_dim known names [] h = refl
+short_dim known names (a ∷ []) h = refl
+short_dim known names (a ∷ b ∷ []) h = refl
+short_dim known names (a ∷ b ∷ c ∷ []) h = refl
+short_dim known names (a ∷ b ∷ c ∷ d ∷ ts) h = absurd (omega arith)
 
-pub known_left : (m : List ℕ) (names : List (List ℕ)) (s : List ℕ) → bytes_eq m s ≡ true → is_new m names s ≡ false
-known_left m names s e = any_or (bytes_eq m s) (list_any (λ r. bytes_eq r s) names) e
-
-pub known_right : (m : List ℕ) (names : List (List ℕ)) (s : List ℕ) → list_any (λ r. bytes_eq r s) names ≡ true → is_new m names s ≡ false
-known_right m names s e = any_right (bytes_eq m s) (list_any (λ r. bytes_eq r s) names) e
-
-pub short_file : (ls : List (List Token)) → length ls < 3 → file_read ls ≡ None
-short_file [] h = refl
-short_file (a ∷ []) h = refl
-short_file (a ∷ b ∷ []) h = refl
-short_file (a ∷ b ∷ c ∷ ls) h = absurd (omega arith)
+pub other_ends : (ls : List (List Token)) → (length ls ≡ 2 → ⊥) → is_ends ls ≡ false
+other_ends [] h = refl
+other_ends (a ∷ []) h = refl
+other_ends (a ∷ b ∷ []) h = absurd (h refl)
+other_ends (a ∷ b ∷ c ∷ ls) h = refl

@@ -1,25 +1,26 @@
 -- The width of a file.
-use Rattle.std.proofs.Common.{◌≡◌, ℕ, ◌≤◌, List, [], ◌∷◌, length, arith}
-use Rattle.std.specs.Prelude.{filter, nat_le}
+use Rattle.std.proofs.Common.{◌≡◌, ℕ, ◌≤◌, List, [], ◌∷◌, length, map, ap, ◌∙◌, sym, arith}
+use Rattle.std.specs.Prelude.{nat_le}
 use Rattle.std.proofs.lemmas.Bool.Decides.{nat_tests}
+use Rattle.std.proofs.lemmas.List.{length-map}
 use Rattle.vb_syntax.specs.declared.tokens.Token.{Token}
+use Rattle.vb_syntax.specs.declared.tokens.Line.{Line as TokenLine}
 use Rattle.vb_bound.specs.Tree.{Tree}
-use Rattle.vb_lexer.specs.Lines.{is_some_token}
-use Rattle.vb_bind.specs.Grammar.{IsProgram, greater, widest}
-use Rattle.vb_bind.proofs.Tests.{by_test}
+use Rattle.vb_bind.specs.declared.names.KnownNames.{KnownNames}
+use Rattle.vb_bind.specs.Grammar.{IsProgramOf, unescaped, greater, widest}
+use Rattle.vb_bind.proofs.Tokens.{by_test}
 
--- a file has a line with tokens
 left : (a b : ℕ) → a ≤ greater a b
 left a b = by_test (nat_le a b) _ (λ h. let le : a ≤ b = grind (arith, nat_tests, h) in rw h le) (λ h. rw h (omega arith))
 
-right : (a b : ℕ) → b ≤ greater a b
-right a b = by_test (nat_le a b) _ (λ h. rw h (omega arith)) (λ h. let le : b ≤ a = grind (arith, nat_tests, h) in rw h le)
+first_wide : (lines : List TokenLine) (a : Token) (l : List Token) (ls : List (List Token)) → map (λ l. map unescaped l.tokens) lines ≡ (a ∷ l) ∷ ls → 1 ≤ widest lines
+first_wide [] a l ls e = absurd cc
+first_wide (x ∷ lines) a l ls e =
+    let same : map unescaped x.tokens ≡ a ∷ l = cc in
+    let long : length x.tokens ≡ length (a ∷ l) = sym (length-map x.tokens unescaped) ∙ ap length same in
+    let k = left (length x.tokens) (widest lines) in
+    omega (arith, k, long)
 
-some_wide : (ls : List (List Token)) (l : List Token) (more : List (List Token)) → filter is_some_token ls ≡ l ∷ more → 1 ≤ widest ls
-some_wide [] l more e = absurd cc
-some_wide ([] ∷ ls) l more e = let h = some_wide ls l more e in let k = right 0 (widest ls) in omega (arith, h, k)
-some_wide ((t ∷ ts) ∷ ls) l more e = let k = left (length (t ∷ ts)) (widest ls) in omega (arith, k)
-
--- the file of a program has a line of one token at least
-pub is_wide : (bytes : List ℕ) (t : Tree) (p : IsProgram bytes t) → 1 ≤ widest p.tokens
-is_wide bytes t p = some_wide p.tokens _ _ p.lines
+-- the lines of a program have a line of one token at least
+pub is_wide : (known : KnownNames) (lines : List TokenLine) (t : Tree) → IsProgramOf known lines t → 1 ≤ widest lines
+is_wide known lines t p = first_wide lines _ _ _ p.lines_are

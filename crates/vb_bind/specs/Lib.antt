@@ -1,3 +1,3 @@
 pub mod Grammar
 pub mod Parsing
-pub mod Reserved
+pub mod Reading

@@ -1,10 +1,13 @@
-//! Reads the bytes of a Visual Basic file into a program whose names are bound.
+//! Reads the logical lines of a Visual Basic file into a program whose names are bound.
 #![tactic(auto)]
 
 mod lines;
 mod names;
 mod program;
-mod reserved;
 mod words;
 
-pub use program::{one_program, read_program};
+pub use names::KnownNames;
+pub use program::{ReadErr, one_program, read_program};
+
+#[cfg(test)]
+mod tests;

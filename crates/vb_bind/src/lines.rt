@@ -1,48 +1,63 @@
 // The lines of a program, each by itself.
-ghost use Rattle.std.specs.Prelude.{◌≡◌, ◌<◌, ◌≤◌, ◌+◌, length, IfSome, Some};
+ghost use Rattle.std.specs.Prelude.{◌≡◌, ◌<◌, ◌≤◌, ◌+◌, length, map, IfSome, Some};
 ghost use Rattle.vb_bound.specs.Tree.{IsOperandOf, IsExprOf, IsLineOf, IsInitialOf};
-ghost use Rattle.vb_bind.specs.Parsing.{operand_read, operator_read, relation_read, are_mixed as are_mixed_operands, two_read, condition_read, expr_read, closed_read, assign_read, write_read, while_read, worded_read, line_read, line_depth, initial_read, dim_read, DimIs};
+ghost use Rattle.vb_bind.specs.Grammar.{unescaped};
+ghost use Rattle.vb_bind.specs.Parsing.{number_read, local_read, operand_read, operator_read, relation_read, are_mixed as are_mixed_operands, two_read, condition_read, expr_read, closed_read, assign_read, write_read, while_read, worded_read, line_read, line_depth, initial_read, dim_read};
 
-use crate::names::{local_of, name_of};
-use crate::words::{is_sign, is_word, is_words};
-use vb_bound::{Condition, Expr, Line, Operand, Operator, Relation, Statement};
-use vb_syntax::{Spelling, Symbol, Token};
+use crate::names::{KnownNames, local_of, new_name_of};
+use crate::words::{is_keyword, is_keywords, is_name, is_symbol, name_of};
+use vb_bound::{Condition, Expr, Line, LocalId, Operand, Operator, Relation, Statement};
+use vb_syntax::{IntegerLiteral, IntegerType, Keyword, Symbol, Token};
+use vb_text::Name;
 
-fn operand_of(names: &[Spelling], token: &Token) -> Option<Operand>
-    ensures operand { result ≡ operand_read names.now token.now }
+// The value of a literal of type Integer, in whatever base it was written.
+fn number_of(token: &Token) -> Option<i32>
+    ensures { result ≡ number_read (unescaped token.now) }
+{
+    match token {
+        Token::Integer(
+            IntegerLiteral {
+                kind: IntegerType::Integer,
+                value,
+            },
+        ) => i32::try_from(*value).ok(),
+        _ => None,
+    }
+}
+
+fn operand_of(names: &[Name], token: &Token) -> Option<Operand>
+    ensures operand { result ≡ operand_read names.now (unescaped token.now) }
     ensures bound { IfSome result (λ p. IsOperandOf (length names.now) p) }
 {
     match token {
-        Token::Number(value) => Some(Operand::Number(*value)),
-        Token::Word(name) => match local_of(names, name.bytes()) {
-            Some(local) => Some(Operand::Local(local)),
-            None => None,
-        },
-        Token::Sign(_) => None,
+        Token::Name(name) | Token::EscapedName(name) => {
+            Some(Operand::Local(local_of(names, *name)?))
+        }
+        _ => Some(Operand::Number(number_of(token)?)),
     }
 }
 
 fn operator_of(token: &Token) -> Option<Operator>
-    ensures { result ≡ operator_read token.now }
+    ensures { result ≡ operator_read (unescaped token.now) }
 {
     match token {
-        Token::Sign(Symbol::Plus) => Some(Operator::Add),
-        Token::Sign(Symbol::Minus) => Some(Operator::Sub),
-        Token::Sign(Symbol::Times) => Some(Operator::Mul),
+        Token::Symbol(Symbol::Plus) => Some(Operator::Add),
+        Token::Symbol(Symbol::Minus) => Some(Operator::Sub),
+        Token::Symbol(Symbol::Times) => Some(Operator::Mul),
         _ => None,
     }
 }
 
 fn relation_of(token: &Token) -> Option<Relation>
-    ensures { result ≡ relation_read token.now }
+    ensures { result ≡ relation_read (unescaped token.now) }
 {
     match token {
-        Token::Sign(Symbol::Equal) => Some(Relation::Equal),
-        Token::Sign(Symbol::NotEqual) => Some(Relation::NotEqual),
-        Token::Sign(Symbol::Less) => Some(Relation::Less),
-        Token::Sign(Symbol::LessOrEqual) => Some(Relation::LessOrEqual),
-        Token::Sign(Symbol::Greater) => Some(Relation::Greater),
-        Token::Sign(Symbol::GreaterOrEqual) => Some(Relation::GreaterOrEqual),
+        Token::Symbol(Symbol::Equal) => Some(Relation::Equal),
+        Token::Symbol(Symbol::NotEqual) => Some(Relation::NotEqual),
+        Token::Symbol(Symbol::Less) => Some(Relation::Less),
+        Token::Symbol(Symbol::LessOrEqual) => Some(Relation::LessOrEqual),
+        Token::Symbol(Symbol::Greater) => Some(Relation::Greater),
+        Token::Symbol(Symbol::GreaterOrEqual) => Some(Relation::GreaterOrEqual),
         _ => None,
     }
 }
@@ -61,8 +76,8 @@ fn are_mixed(left: Operand, right: Operand) -> bool
 }
 
 // An operator between two operands.
-fn two_of(names: &[Spelling], left: &Token, operator: &Token, right: &Token) -> Option<Expr>
-    ensures expr { result ≡ two_read names.now left.now operator.now right.now }
+fn two_of(names: &[Name], left: &Token, operator: &Token, right: &Token) -> Option<Expr>
+    ensures expr { result ≡ two_read names.now (unescaped left.now) (unescaped operator.now) (unescaped right.now) }
     ensures bound { IfSome result (λ e. IsExprOf (length names.now) e) }
 {
     let left = operand_of(names, left)?;
@@ -76,13 +91,8 @@ fn two_of(names: &[Spelling], left: &Token, operator: &Token, right: &Token) -> 
 }
 
 // A relation between two operands.
-fn condition_of(
-    names: &[Spelling],
-    left: &Token,
-    relation: &Token,
-    right: &Token,
-) -> Option<Condition>
-    ensures condition { result ≡ condition_read names.now left.now relation.now right.now }
+fn condition_of(names: &[Name], left: &Token, relation: &Token, right: &Token) -> Option<Condition>
+    ensures condition { result ≡ condition_read names.now (unescaped left.now) (unescaped relation.now) (unescaped right.now) }
     ensures bound { IfSome result (λ c. IsLineOf (length names.now) (Line.While c)) }
 {
     let left = operand_of(names, left)?;
@@ -99,8 +109,8 @@ fn condition_of(
     }
 }
 
-fn expr_of(names: &[Spelling], tokens: &[Token]) -> Option<Expr>
-    ensures expr { result ≡ expr_read names.now tokens.now }
+fn expr_of(names: &[Name], tokens: &[Token]) -> Option<Expr>
+    ensures expr { result ≡ expr_read names.now (map unescaped tokens.now) }
     ensures bound { IfSome result (λ e. IsExprOf (length names.now) e) }
 {
     match tokens {
@@ -111,15 +121,15 @@ fn expr_of(names: &[Spelling], tokens: &[Token]) -> Option<Expr>
 }
 
 // An expression and a closing bracket.
-fn closed_of(names: &[Spelling], tokens: &[Token]) -> Option<Expr>
-    ensures expr { result ≡ closed_read names.now tokens.now }
+fn closed_of(names: &[Name], tokens: &[Token]) -> Option<Expr>
+    ensures expr { result ≡ closed_read names.now (map unescaped tokens.now) }
     ensures bound { IfSome result (λ e. IsExprOf (length names.now) e) }
 {
     match tokens {
-        [operand, close] if is_sign(close, Symbol::Close) => Some(Expr::One(operand_of(
+        [operand, close] if is_symbol(close, Symbol::CloseParenthesis) => Some(Expr::One(operand_of(
             names, operand,
         )?)),
-        [left, operator, right, close] if is_sign(close, Symbol::Close) => two_of(
+        [left, operator, right, close] if is_symbol(close, Symbol::CloseParenthesis) => two_of(
             names, left, operator, right,
         ),
         _ => None,
@@ -127,54 +137,57 @@ fn closed_of(names: &[Spelling], tokens: &[Token]) -> Option<Expr>
 }
 
 // A line behind the declarations.
-pub fn line_of(names: &[Spelling], tokens: &[Token]) -> Option<Line>
-    ensures line { result ≡ line_read names.now tokens.now }
+pub fn line_of(known: &KnownNames, names: &[Name], tokens: &[Token]) -> Option<Line>
+    ensures line { result ≡ line_read known.now names.now (map unescaped tokens.now) }
     ensures bound { IfSome result (λ l. IsLineOf (length names.now) l) }
 {
     match tokens {
         [first, second, rest @ ..] => {
-            if is_sign(second, Symbol::Equal) {
+            if is_symbol(second, Symbol::Equal) {
                 assign_of(names, first, rest)
             } else {
-                worded_line_of(names, tokens)
+                worded_line_of(known, names, tokens)
             }
         }
         _ => None,
     }
 }
 
-fn assign_of(names: &[Spelling], target: &Token, tokens: &[Token]) -> Option<Line>
-    ensures line { result ≡ assign_read names.now target.now tokens.now }
+// The local that a token names.
+fn named_local(names: &[Name], token: &Token) -> Option<LocalId>
+    ensures local { result ≡ local_read names.now (unescaped token.now) }
+    ensures bound { IfSome result (λ x. x.0 < length names.now) }
+{
+    local_of(names, name_of(token)?)
+}
+
+fn assign_of(names: &[Name], target: &Token, tokens: &[Token]) -> Option<Line>
+    ensures line { result ≡ assign_read names.now (unescaped target.now) (map unescaped tokens.now) }
     ensures bound { IfSome result (λ l. IsLineOf (length names.now) l) }
 {
-    match target {
-        Token::Word(name) => {
-            let local = local_of(names, name.bytes())?;
-            let expr = expr_of(names, tokens)?;
-            Some(Line::Does(Statement::Assign(local, expr)))
-        }
-        _ => None,
-    }
+    let local = named_local(names, target)?;
+    let expr = expr_of(names, tokens)?;
+    Some(Line::Does(Statement::Assign(local, expr)))
 }
 
 // A line that isn't an assignment.
-fn worded_line_of(names: &[Spelling], tokens: &[Token]) -> Option<Line>
-    ensures line { result ≡ worded_read names.now tokens.now }
+fn worded_line_of(known: &KnownNames, names: &[Name], tokens: &[Token]) -> Option<Line>
+    ensures line { result ≡ worded_read known.now names.now (map unescaped tokens.now) }
     ensures bound { IfSome result (λ l. IsLineOf (length names.now) l) }
 {
     match tokens {
-        [first, rest @ ..] if is_word(first, b"while") => while_of(names, rest),
-        [first, dot, rest @ ..] if is_word(first, b"console") && is_sign(dot, Symbol::Dot) => {
-            write_of(names, rest)
+        [first, rest @ ..] if is_keyword(first, Keyword::While) => while_of(names, rest),
+        [first, dot, rest @ ..] if is_name(first, known.console) && is_symbol(dot, Symbol::Dot) => {
+            write_of(known, names, rest)
         }
-        _ if is_words(tokens, b"end", b"while") => Some(Line::EndWhile),
+        _ if is_keywords(tokens, Keyword::End, Keyword::While) => Some(Line::EndWhile),
         _ => None,
     }
 }
 
 // The front of a loop, behind its word.
-fn while_of(names: &[Spelling], tokens: &[Token]) -> Option<Line>
-    ensures line { result ≡ while_read names.now tokens.now }
+fn while_of(names: &[Name], tokens: &[Token]) -> Option<Line>
+    ensures line { result ≡ while_read names.now (map unescaped tokens.now) }
     ensures bound { IfSome result (λ l. IsLineOf (length names.now) l) }
 {
     match tokens {
@@ -187,13 +200,13 @@ fn while_of(names: &[Spelling], tokens: &[Token]) -> Option<Line>
 }
 
 // A call of the console, behind its first dot.
-fn write_of(names: &[Spelling], tokens: &[Token]) -> Option<Line>
-    ensures line { result ≡ write_read names.now tokens.now }
+fn write_of(known: &KnownNames, names: &[Name], tokens: &[Token]) -> Option<Line>
+    ensures line { result ≡ write_read known.now names.now (map unescaped tokens.now) }
     ensures bound { IfSome result (λ l. IsLineOf (length names.now) l) }
 {
     match tokens {
         [write_line, open, rest @ ..] => {
-            if is_word(write_line, b"writeline") && is_sign(open, Symbol::Open) {
+            if is_name(write_line, known.write_line) && is_symbol(open, Symbol::OpenParenthesis) {
                 let expr = closed_of(names, rest)?;
                 Some(Line::Does(Statement::WriteLine(expr)))
             } else {
@@ -218,14 +231,14 @@ pub fn depth_behind(depth: usize, line: &Line) -> Option<usize>
 }
 
 // The value that a declaration gives.
-fn initial_of(names: &[Spelling], tokens: &[Token]) -> Option<Option<Operand>>
-    ensures initial { result ≡ initial_read names.now tokens.now }
+fn initial_of(names: &[Name], tokens: &[Token]) -> Option<Option<Operand>>
+    ensures initial { result ≡ initial_read names.now (map unescaped tokens.now) }
     ensures bound { IfSome result (λ i. IsInitialOf (length names.now) i) }
 {
     match tokens {
         [] => Some(None),
         [equal, operand] => {
-            if is_sign(equal, Symbol::Equal) {
+            if is_symbol(equal, Symbol::Equal) {
                 let operand = operand_of(names, operand)?;
                 Some(Some(operand))
             } else {
@@ -237,14 +250,21 @@ fn initial_of(names: &[Spelling], tokens: &[Token]) -> Option<Option<Operand>>
 }
 
 // A declaration: the local's name and its value, if it is given one.
-pub fn dim_of<'a>(names: &[Spelling], line: &'a [Token]) -> Option<(&'a Spelling, Option<Operand>)>
-    ensures dim { DimIs result (dim_read names.now line.now) }
+pub fn dim_of(
+    known: &KnownNames,
+    names: &[Name],
+    tokens: &[Token],
+) -> Option<(Name, Option<Operand>)>
+    ensures dim { result ≡ dim_read known.now names.now (map unescaped tokens.now) }
     ensures bound { IfSome result (λ d. IsInitialOf (length names.now) d.1) }
 {
-    match line {
+    match tokens {
         [dim, name, as_word, integer, rest @ ..] => {
-            if is_word(dim, b"dim") && is_word(as_word, b"as") && is_word(integer, b"integer") {
-                let name = name_of(name)?;
+            if is_keyword(dim, Keyword::Dim)
+                && is_keyword(as_word, Keyword::As)
+                && is_keyword(integer, Keyword::Integer)
+            {
+                let name = new_name_of(known, name)?;
                 let initial = initial_of(names, rest)?;
                 Some((name, initial))
             } else {

@@ -1,45 +1,78 @@
-// Names of locals and of the module.
-ghost use Rattle.std.specs.Prelude.{◌≡◌, ◌<◌, length, IfSome, bytes_eq};
-ghost use Rattle.std.specs.List.{list_any};
-ghost use Rattle.vb_bind.specs.Grammar.{taken_words};
-ghost use Rattle.vb_bind.specs.Parsing.{is_one_of, is_free, name_read, is_new, local_from, NameIs};
+// Names: those that the grammar uses, those of locals and that of the module.
+ghost use Rattle.std.specs.Prelude.{◌≡◌, ◌<◌, length, IfOk, IfSome, OnOk};
+ghost use Rattle.vb_text.specs.Names.{Extends};
+ghost use Rattle.vb_bind.specs.Grammar.{AreKnown, with_known, unescaped};
+ghost use Rattle.vb_bind.specs.Parsing.{is_one_of, is_free as is_free_name, name_read, is_new, local_from};
 
-use crate::reserved::is_reserved;
-use crate::words::is_same;
+use crate::words::{is_same, name_of};
+use std::alloc::AllocError;
 use vb_bound::LocalId;
-use vb_syntax::{Spelling, Token};
+use vb_syntax::Token;
+use vb_text::{Name, NameTable, names_stay};
 
-const LONGEST_NAME: usize = 1023;
+/// The names that the grammar of a program uses (Visual Basic Language Specification 11.0, 2.2), of one table of names:
+/// `System`, `Console`, `WriteLine` and `Main`.
+#[derive(Clone, Copy, Debug, PartialEq, Eq)]
+pub struct KnownNames {
+    /// `System`, the namespace that a program imports (Visual Basic Language Specification 11.0, 6.3.2).
+    pub system: Name,
+    /// `Console`, the class of that namespace.
+    pub console: Name,
+    /// `WriteLine`, the method of that class.
+    pub write_line: Name,
+    /// `Main`, where a program begins (Visual Basic Language Specification 11.0, 6.1).
+    pub main: Name,
+}
 
-// A word that may be a name.
-pub fn name_of(token: &Token) -> Option<&Spelling>
-    ensures { NameIs result (name_read token.now) }
-{
-    match token {
-        Token::Word(spelling) if is_name(spelling.bytes()) => Some(spelling),
-        _ => None,
+impl KnownNames {
+    /// Puts them into the table, where they are not there yet. Their case does not matter (Visual Basic Language
+    /// Specification 11.0, 2.2).
+    ///
+    /// The error is want of memory; the table may then have some of them.
+    pub fn new(names: &mut NameTable) -> Result<KnownNames, AllocError>
+        ensures known { IfOk result (λ k. AreKnown names.new k) }
+        ensures extends { Extends names.new names.old }
+        ensures grown { OnOk result (names.new ≡ with_known names.old) }
+    {
+        let system = names.intern("System")?;
+        let console = names.intern("Console")?;
+        let write_line = names.intern("WriteLine")?;
+        let main = names.intern("Main")?;
+        names_stay();
+        Ok(KnownNames {
+            system,
+            console,
+            write_line,
+            main,
+        })
     }
 }
 
-fn is_name(word: &[u8]) -> bool
-    ensures { result ≡ is_free word.now }
+// The name that a token gives to a local or a module, where it may.
+pub fn new_name_of(known: &KnownNames, token: &Token) -> Option<Name>
+    ensures { result ≡ name_read known.now (unescaped token.now) }
 {
-    word.len() <= LONGEST_NAME && !is_reserved(word) && !is_taken(word)
+    let name = name_of(token)?;
+    if is_free(known, name) {
+        Some(name)
+    } else {
+        None
+    }
 }
 
-// What a program names without declaring it.
-fn is_taken(word: &[u8]) -> bool
-    ensures { result ≡ is_one_of word.now taken_words }
+// Whether a name is none that a program uses without declaring it.
+fn is_free(known: &KnownNames, name: Name) -> bool
+    ensures { result ≡ is_free_name known.now name }
 {
-    is_same(word, b"system") || is_same(word, b"console") || is_same(word, b"main")
+    !(is_same(known.system, name) || is_same(known.console, name) || is_same(known.main, name))
 }
 
 // Whether a name is among others.
-fn is_known(names: &[Spelling], name: &[u8]) -> bool
-    ensures { result ≡ list_any (λ r. bytes_eq r name.now) names.now }
+fn is_known(names: &[Name], name: Name) -> bool
+    ensures { result ≡ is_one_of name names.now }
 {
     for known in names {
-        if is_same(known.bytes(), name) {
+        if is_same(*known, name) {
             return true;
         }
     }
@@ -47,20 +80,20 @@ fn is_known(names: &[Spelling], name: &[u8]) -> bool
 }
 
 // Whether a name is neither the module's nor among the locals'.
-pub fn is_new_name(own_name: &Spelling, names: &[Spelling], name: &Spelling) -> bool
-    ensures { result ≡ is_new own_name.now names.now name.now }
+pub fn is_new_name(own_name: Name, names: &[Name], name: Name) -> bool
+    ensures { result ≡ is_new own_name names.now name }
 {
-    !(is_same(own_name.bytes(), name.bytes()) || is_known(names, name.bytes()))
+    !(is_same(own_name, name) || is_known(names, name))
 }
 
 // The local of a name.
-pub fn local_of(names: &[Spelling], name: &[u8]) -> Option<LocalId>
-    ensures number { result ≡ local_from 0 names.now name.now }
+pub fn local_of(names: &[Name], name: Name) -> Option<LocalId>
+    ensures number { result ≡ local_from 0 names.now name }
     ensures bound { IfSome result (λ x. x.0 < length names.now) }
 {
     let mut number = 0;
     for known in names {
-        if is_same(known.bytes(), name) {
+        if is_same(*known, name) {
             return Some(LocalId(number));
         }
         number += 1;

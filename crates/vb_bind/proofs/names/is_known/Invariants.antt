@@ -1,7 +1,6 @@
 use Rattle.std.proofs.Common.{◌≡◌, drop}
-use Rattle.std.specs.Prelude.{bytes_eq}
-use Rattle.std.specs.List.{list_any}
+use Rattle.vb_bind.specs.Parsing.{is_one_of}
 use Rattle.vb_bind.proofs.names.is_known.Given as goal
 
 abbrev pub invariant-loop-known : goal.invariant-loop-known
-invariant-loop-known l = list_any (λ r. bytes_eq r l.name) (drop l.known-index l.names) ≡ list_any (λ r. bytes_eq r l.name) l.names
+invariant-loop-known l = is_one_of l.name (drop l.known-index l.names) ≡ is_one_of l.name l.names
