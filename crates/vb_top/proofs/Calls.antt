@@ -11,12 +11,14 @@ use Rattle.vb_value.specs.declared.stop.Stop.TheVariants.{Ended, Uncaught, HeapL
 use Rattle.vb_value.specs.declared.stop.Status.{Status}
 use Rattle.vb_value.specs.declared.stop.Status.TheVariants.{Write}
 use Rattle.vb_bound.specs.Tree.{Tree}
-use Rattle.vb_bind.specs.Grammar.{IsProgram, IsNoProgram, widest}
+use Rattle.vb_bind.specs.Grammar.{widest}
 use Rattle.vb_bind.proofs.Widest.{is_wide}
 use Rattle.vb_top.specs.declared.outcome.Answer.{Answer}
 use Rattle.vb_top.specs.declared.outcome.Answer.TheVariants.{Usage, Missing, TooLong, LoadFault, Refused, Memory, Stopped}
 use Rattle.vb_top.specs.declared.outcome.Report.{Report}
+use Rattle.vb_lexer.proofs.Unique.{never_both}
 use Rattle.vb_top.specs.Words.{file_of_words}
+use Rattle.vb_top.specs.Programs.{IsProgram, LeastBroken}
 use Rattle.vb_top.specs.Answers.{Tells, line_of, status_of}
 use Rattle.vb_top.specs.Reports.{RanProgram}
 use Rattle.vb_top.specs.Headline.{longest_file, Call, MayBe, IsLoaded, MayBeHad, Judged, IsReported, TellsRun, Built, Works, IsProper, Headline, Complete, call_of}
@@ -30,12 +32,19 @@ pub built_by : (bytes : List ℕ) (t : Tree) (from : Report) (said : Answer) (re
 built_by bytes t from said report name p tells input old new before now ran =
     subst (λ o. Built bytes input old new before now said o name) (sym tells.report_is) (subst (λ a. Built bytes input old new before now a (Some tells.kept) name) (sym tells.said_is) (refl, tells.named, t, p, tells.ran t input old new before now ran))
 
-pub refused_built : (bytes input : List ℕ) (old : Option (List ℕ)) (before : ℕ) (said : Answer) (report : Option Report) (name : List ℕ) → IsNoProgram bytes → said ≡ Refused → report ≡ None → Built bytes input old old before before said report name
-refused_built bytes input old before said report name none e k =
-    subst (λ o. Built bytes input old old before before said o name) (sym k) (subst (λ a. Built bytes input old old before before a None name) (sym e) (none, Keeps-refl old))
+pub refused_built : (bytes input : List ℕ) (old : Option (List ℕ)) (before : ℕ) (said : Answer) (line rule : ℕ) (report : Option Report) (name : List ℕ) → LeastBroken bytes line rule → (said ≡ Refused line rule) ⊎ (said ≡ Memory) → report ≡ None → Built bytes input old old before before said report name
+refused_built bytes input old before said line rule report name broken (inl e) k =
+    subst (λ o. Built bytes input old old before before said o name) (sym k) (subst (λ a. Built bytes input old old before before a None name) (sym e) (broken, Keeps-refl old))
+refused_built bytes input old before said line rule report name broken (inr e) k =
+    subst (λ o. Built bytes input old old before before said o name) (sym k) (subst (λ a. Built bytes input old old before before a None name) (sym e) (Keeps-refl old))
+
+-- a program breaks no rule
+sound_program : (bytes : List ℕ) (t : Tree) (line rule : ℕ) → IsProgram bytes t → LeastBroken bytes line rule → ⊥
+sound_program bytes t line rule p (inl breaks) = never_both p.names 0 bytes p.lines line rule p.lexed.lexed breaks
+sound_program bytes t line rule p (inr none) = none.1 t p
 
 pub works_of : (words : List (List ℕ)) (told : Option Files) (file bytes : List ℕ) (fb fn : ℕ) (input : List ℕ) (old new : Option (List ℕ)) (b n : ℕ) (said : Answer) (report : Option Report) (name : List ℕ) → IsLoaded words told file bytes → Built bytes input old new b n said report name → Works words told file fb fn input old new b n said report name
-works_of words told file bytes fb fn input old new b n Refused None name is h = record { judged = (bytes, is); reported = refl; named = tt; least = (bytes, is, h.0); ran = h.1 }
+works_of words told file bytes fb fn input old new b n (Refused line rule) None name is h = record { judged = (bytes, is); reported = refl; named = tt; least = (bytes, is, h.0); ran = h.1 }
 works_of words told file bytes fb fn input old new b n Memory None name is h = record { judged = is.words_are; reported = refl; named = tt; least = tt; ran = h }
 works_of words told file bytes fb fn input old new b n (Stopped stop) (Some r) name is h = record { judged = (bytes, is); reported = h.0; named = h.1; least = (bytes, h.2, is, h.3); ran = (bytes, h.2, is, h.3, h.4) }
 works_of words told file bytes fb fn input old new b n Usage None name is h = absurd h
@@ -47,7 +56,7 @@ works_of words told file bytes fb fn input old new b n Usage (Some r) name is h 
 works_of words told file bytes fb fn input old new b n Missing (Some r) name is h = absurd h
 works_of words told file bytes fb fn input old new b n TooLong (Some r) name is h = absurd h
 works_of words told file bytes fb fn input old new b n LoadFault (Some r) name is h = absurd h
-works_of words told file bytes fb fn input old new b n Refused (Some r) name is h = absurd h
+works_of words told file bytes fb fn input old new b n (Refused line rule) (Some r) name is h = absurd h
 works_of words told file bytes fb fn input old new b n Memory (Some r) name is h = absurd h
 
 pub usage_works : (words : List (List ℕ)) (told : Option Files) (fb : ℕ) (input : List ℕ) (old : Option (List ℕ)) (b : ℕ) (name : List ℕ) → file_of_words words ≡ None → Works words told [] fb fb input old old b b Usage None name
@@ -69,7 +78,7 @@ write_status Usage e = absurd (cc)
 write_status Missing e = absurd (cc)
 write_status TooLong e = absurd (cc)
 write_status LoadFault e = absurd (cc)
-write_status Refused e = absurd (cc)
+write_status (Refused line rule) e = absurd (cc)
 write_status Memory e = absurd (cc)
 write_status (Stopped Ended) e = absurd (cc)
 write_status (Stopped (Uncaught thread class)) e = absurd (cc)
@@ -109,11 +118,11 @@ module _ (words : List (List ℕ)) (told : Option Files) (file : List ℕ) (fb f
       let over = long.2 in
       absurd (omega arith)
   proper LoadFault report works files other bytes t w k found short p folder out = absurd (folder works.judged.1)
-  proper Refused report works files other bytes t w k found short p folder out =
+  proper (Refused line rule) report works files other bytes t w k found short p folder out =
       let l = works.least in
       let same = same_file words file other l.1.words_are w in
       let equal : bytes ≡ l.0 = same_bytes files file bytes l.0 (ap (λ f. file_of files f) same ∙ found) (l.1.found files k) in
-      absurd (l.2 t (subst (λ x. IsProgram x t) equal p))
+      absurd (sound_program l.0 t line rule (subst (λ x. IsProgram x t) equal p) l.2)
   proper Memory report works files other bytes t w k found short p folder out = tt
   proper (Stopped Ended) report works files other bytes t w k found short p folder out = tt
   proper (Stopped (Uncaught thread class)) report works files other bytes t w k found short p folder out = tt
@@ -162,7 +171,7 @@ module _ (words : List (List ℕ)) (told : Option Files) (file : List ℕ) (fb f
           console_lines = x.shows;
           stop_stands = x.stands;
           code_did_it = (x.did, subst (λ i. MayBe input_after i) (sym x.did.input_left) left);
-          numbers = x.counted (widest ran.3.tokens) (is_wide ran.0 ran.1 ran.3);
+          numbers = x.counted (widest ran.3.lines) (is_wide ran.3.known ran.3.lines ran.1 ran.3.program);
           schedule = x.mains;
           cut_short = record { read = read_rose (Some r) works; write = λ e. x.faulted (subst (λ a. IsReported a (Some r)) e works.reported); told = nine said (line_of said file name) status eo en eb ef tells; later = (folder_later, out_later, err_later) };
           complete = completes (Some r) works;
@@ -178,16 +187,6 @@ finished left written faults words told told_after file fb fn bytes input input_
 
 pub same_count : (n : ℕ) → n ≤ n
 same_count n = omega arith
-
--- where there is no memory for the line of a refusal, want of memory is told
-pub no_line : (words : List (List ℕ)) (told : Option Files) (file : List ℕ) (fb fn : ℕ) (input : List ℕ) (old new : Option (List ℕ)) (b n : ℕ) (said after : Answer) (report kept : Option Report) (name other : List ℕ) → said ≡ Refused → after ≡ Memory → kept ≡ None → Works words told file fb fn input old new b n said report name → Works words told file fb fn input old new b n after kept other
-no_line words told file fb fn input old new b n said after report kept name other e f k works =
-    let told_so = of_refused report (subst (λ a. Works words told file fb fn input old new b n a report name) e works) in
-    subst (λ o. Works words told file fb fn input old new b n after o other) (sym k) (subst (λ a. Works words told file fb fn input old new b n a None other) (sym f) told_so)
-  where
-    of_refused : (r : Option Report) → Works words told file fb fn input old new b n Refused r name → Works words told file fb fn input old new b n Memory None other
-    of_refused None w = record { judged = w.judged.1.words_are; reported = refl; named = tt; least = tt; ran = w.ran }
-    of_refused (Some r) w = let no : Some r ≡ None = w.reported in absurd (cc)
 
 -- a load that has failed is that of a file that can be had
 pub could_be_had : (told : Option Files) (file : List ℕ) (before now : ℕ) (reason : LoadErr) (old new : List ℕ) → reason ≡ Failed → Loads told file longest_file before now (Err reason) old new → OfTold told (λ files. MayBeHad files file)

@@ -27,7 +27,7 @@ status_of Usage = StatusUsage
 status_of Missing = File
 status_of TooLong = File
 status_of LoadFault = Read
-status_of Refused = StatusRefused
+status_of (Refused line rule) = StatusRefused
 status_of Memory = StatusMemory
 status_of (Stopped stop) = status_of_stop stop
 
@@ -46,7 +46,7 @@ line_of Usage file name = codes "usage: vbrun run FILE.. [--limit N] [--heap N] 
 line_of Missing file name = file ++ codes ": not found\n"
 line_of TooLong file name = file ++ codes ": longer than 4194304 bytes\n"
 line_of LoadFault file name = codes "read fault\n"
-line_of Refused file name = refusal_text file 1 999
+line_of (Refused line rule) file name = refusal_text file line rule
 line_of Memory file name = codes "out of memory\n"
 line_of (Stopped stop) file name = line_of_stop stop name
 
@@ -56,7 +56,7 @@ IsRefusalLine Usage file line = Unit {0}
 IsRefusalLine Missing file line = Unit {0}
 IsRefusalLine TooLong file line = Unit {0}
 IsRefusalLine LoadFault file line = Unit {0}
-IsRefusalLine Refused file line = line ≡ refusal_text file 1 999
+IsRefusalLine (Refused number rule) file line = line ≡ refusal_text file number rule
 IsRefusalLine Memory file line = Unit {0}
 IsRefusalLine (Stopped stop) file line = Unit {0}
 

@@ -14,12 +14,13 @@ use Rattle.vb_code.specs.Code.{class_name}
 use Rattle.vb_code.specs.Machine.{CodeThread}
 use Rattle.vb_bound.specs.Tree.{Tree}
 use Rattle.vb_meaning.specs.Source.{SourceThread}
-use Rattle.vb_bind.specs.Grammar.{IsProgram, IsNoProgram, widest}
+use Rattle.vb_bind.specs.Grammar.{widest}
 use Rattle.vb_turns.specs.Ran.{AreMains}
 use Rattle.vb_top.specs.declared.outcome.Answer.{Answer}
 use Rattle.vb_top.specs.declared.outcome.Answer.TheVariants.{Usage, Missing, TooLong, LoadFault, Refused, Memory, Stopped}
 use Rattle.vb_top.specs.declared.outcome.Report.{Report}
 use Rattle.vb_top.specs.Words.{file_of_words}
+use Rattle.vb_top.specs.Programs.{IsProgram, LeastBroken}
 use Rattle.vb_top.specs.Answers.{status_of, line_of, Tells}
 use Rattle.vb_top.specs.Reports.{ShowsRun, StopStandsIn, CodeRan, Counts, AsksWriting, RanProgram}
 
@@ -90,7 +91,7 @@ Judged words told before now file Usage = file_of_words words ≡ None
 Judged words told before now file Missing = (file_of_words words ≡ Some file) × OfTold told (λ files. file_of files file ≡ None)
 Judged words told before now file TooLong = (file_of_words words ≡ Some file) × OfTold told (λ files. (bytes : List ℕ) × (file_of files file ≡ Some bytes) × (longest_file < length bytes))
 Judged words told before now file LoadFault = (file_of_words words ≡ Some file) × Rose before now × OfTold told (λ files. MayBeHad files file)
-Judged words told before now file Refused = (bytes : List ℕ) × IsLoaded words told file bytes
+Judged words told before now file (Refused line rule) = (bytes : List ℕ) × IsLoaded words told file bytes
 Judged words told before now file Memory = file_of_words words ≡ Some file
 Judged words told before now file (Stopped stop) = (bytes : List ℕ) × IsLoaded words told file bytes
 
@@ -102,7 +103,7 @@ IsReported Usage report = report ≡ None
 IsReported Missing report = report ≡ None
 IsReported TooLong report = report ≡ None
 IsReported LoadFault report = report ≡ None
-IsReported Refused report = report ≡ None
+IsReported (Refused line rule) report = report ≡ None
 IsReported Memory report = report ≡ None
 
 abbrev pub IsNameIn : Report → Stop → List ℕ → Type 0
@@ -129,13 +130,14 @@ pub record WordsAndFiles (call : Call) (said : Answer) (file name : List ℕ) : 
 
 -- LEAST REFUSAL
 
--- A refusal comes exactly where the bytes are no program. V999 at line 1 is the one rule, and so the least.
+-- A refusal comes exactly where the bytes break a rule, with the least line and the least rule there; a run comes exactly
+-- where they are a program.
 abbrev pub LeastRefusal : List (List ℕ) → Option Files → List ℕ → Answer → Type 0
 LeastRefusal words told file Usage = Unit {0}
 LeastRefusal words told file Missing = Unit {0}
 LeastRefusal words told file TooLong = Unit {0}
 LeastRefusal words told file LoadFault = Unit {0}
-LeastRefusal words told file Refused = (bytes : List ℕ) × IsLoaded words told file bytes × IsNoProgram bytes
+LeastRefusal words told file (Refused line rule) = (bytes : List ℕ) × IsLoaded words told file bytes × LeastBroken bytes line rule
 LeastRefusal words told file Memory = Unit {0}
 LeastRefusal words told file (Stopped stop) = (bytes : List ℕ) × (t : Tree) × IsLoaded words told file bytes × IsProgram bytes t
 
@@ -180,7 +182,7 @@ CodeDidIt call file (Some r) runs = CodeRan call.input r runs.source runs.machin
 
 abbrev pub Numbers : (call : Call) (file : List ℕ) (report : Option Report) → RunsOf call file report → Type 0
 Numbers call file None runs = Unit {0}
-Numbers call file (Some r) runs = Counts r (widest runs.program.tokens) runs.source
+Numbers call file (Some r) runs = Counts r (widest runs.program.lines) runs.source
 
 -- SCHEDULE
 
@@ -218,7 +220,7 @@ IsProper Usage = ⊥
 IsProper Missing = ⊥
 IsProper TooLong = ⊥
 IsProper LoadFault = ⊥
-IsProper Refused = ⊥
+IsProper (Refused line rule) = ⊥
 
 -- Known words, a file that is there and not too long, no broken rule and no rise of any count.
 pub record IsWell (call : Call) (files : Files) (file bytes : List ℕ) (t : Tree) : Type 0 where
@@ -248,7 +250,7 @@ pub record TellsRun (from : Report) (said : Answer) (report : Option Report) (na
 
 -- what the bytes of a file came to
 abbrev pub Built : List ℕ → List ℕ → Option (List ℕ) → Option (List ℕ) → ℕ → ℕ → Answer → Option Report → List ℕ → Type 0
-Built bytes input old new before now Refused None name = IsNoProgram bytes × Keeps old new
+Built bytes input old new before now (Refused line rule) None name = LeastBroken bytes line rule × Keeps old new
 Built bytes input old new before now Memory None name = Keeps old new
 Built bytes input old new before now (Stopped stop) (Some r) name = (r.stop ≡ stop) × IsNameIn r r.stop name × (t : Tree) × IsProgram bytes t × RanProgram t r input old new before now
 Built bytes input old new before now said report name = ⊥

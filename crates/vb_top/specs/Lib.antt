@@ -1,4 +1,5 @@
 pub mod Words
+pub mod Programs
 pub mod Answers
 pub mod Reports
 pub mod Headline

@@ -1,20 +1,20 @@
 // The top call.
-ghost use Rattle.std.specs.Prelude.{◌≡◌, ◌≤◌, [], List, ℕ, map, string_bytes};
+ghost use Rattle.std.specs.Prelude.{◌≡◌, ◌⊎◌, ◌≤◌, [], List, ℕ, length, map, string_bytes};
 ghost use Rattle.vb_io.specs.Files.{Files};
 ghost use Rattle.vb_top.specs.Words.{file_of_words};
 ghost use Rattle.vb_top.specs.Answers.{status_of as status_of_answer, line_of, IsRefusalLine, Tells};
-ghost use Rattle.vb_top.specs.Headline.{MayBe, Built, Works, Headline, call_of};
+ghost use Rattle.vb_top.specs.Headline.{MayBe, Built, Works, Headline, call_of, longest_file};
 
+use crate::compiling::{CompileErr, compile};
 use crate::outcome::{Answer, Finished, Report};
 use crate::running::{Outcome, named, run_program};
-use crate::telling::{refusal_of, status_of, tell};
+use crate::telling::{status_of, tell};
 use crate::words::file_word;
-use std::alloc::{AllocError, Global};
+use std::alloc::Global;
 use std::sync::Wait;
 use std::thread::Threads;
-use vb_bind::read_program;
+use vb_diag::{Refusal, refusal_line};
 use vb_io::{Failed, Folder, Gate, LoadErr, Sink, Source};
-use vb_syntax::ReadErr;
 use vb_value::Status;
 
 const LONGEST_FILE: u64 = 4_194_304;
@@ -64,22 +64,13 @@ pub fn vb_command<F: Folder, I: Source, O: Sink, E: Sink>(
                 said: Answer::Usage,
                 report: None,
                 name: String::new(alloc),
+                refusal: Vec::new(alloc),
             };
-            finish("", usage, b"", input, out, err)
+            finish("", usage, input, out, err)
         }
         Some(file) => {
             let outcome = work(alloc, file, folder, &mut out);
-            match refusal_of(alloc, file, outcome.said) {
-                Ok(refusal) => finish(file, outcome, &refusal, input, out, err),
-                Err(AllocError) => finish(
-                    file,
-                    unbuilt(alloc, Answer::Memory),
-                    b"",
-                    input,
-                    out,
-                    err,
-                ),
-            }
+            finish(file, outcome, input, out, err)
         }
     }
 }
@@ -88,12 +79,11 @@ pub fn vb_command<F: Folder, I: Source, O: Sink, E: Sink>(
 fn finish<I: Source, O: Sink, E: Sink>(
     file: &str,
     outcome: Outcome,
-    refusal: &[u8],
     input: I,
     out: O,
     err: E,
 ) -> Finished<I, O, E>
-    requires { IsRefusalLine outcome.said file.now refusal.now }
+    requires { IsRefusalLine outcome.said file.now outcome.refusal.items }
     ensures tells { Tells (line_of outcome.said file.now (string_bytes outcome.name)) (status_of_answer outcome.said) result.status (E.written err) (E.written result.err) (E.faults err) (E.faults result.err) }
     ensures later { E.faults err ≤ E.faults result.err }
     ensures report { result.report ≡ outcome.report }
@@ -101,8 +91,13 @@ fn finish<I: Source, O: Sink, E: Sink>(
     ensures out { result.out ≡ out }
 {
     let mut err = err;
-    let Outcome { said, report, name } = outcome;
-    match tell(&mut err, said, file, name.as_str(), refusal) {
+    let Outcome {
+        said,
+        report,
+        name,
+        refusal,
+    } = outcome;
+    match tell(&mut err, said, file, name.as_str(), &refusal) {
         Ok(()) => Finished {
             status: status_of(said),
             report,
@@ -123,13 +118,14 @@ fn finish<I: Source, O: Sink, E: Sink>(
 // Loads, compiles and runs a file.
 fn work<F: Folder, O: Sink>(alloc: Global, file: &str, folder: &mut F, out: &mut O) -> Outcome
     ensures works { (words : List (List ℕ)) → file_of_words words ≡ Some file.now → (input : List ℕ) → Works words (F.holds folder.old) file.now (F.faults folder.old) (F.faults folder.new) input (O.written out.old) (O.written out.new) (O.faults out.old) (O.faults out.new) result.said result.report (string_bytes result.name) }
+    ensures line { IsRefusalLine result.said file.now result.refusal.items }
     ensures kept { F.holds folder.new ≡ F.holds folder.old }
     ensures folder_later { F.faults folder.old ≤ F.faults folder.new }
     ensures out_later { O.faults out.old ≤ O.faults out.new }
 {
     let mut bytes = Vec::new(alloc);
     match folder.load(file, LONGEST_FILE, &mut bytes) {
-        Ok(()) => build(alloc, &bytes, out),
+        Ok(()) => build(alloc, file, &bytes, out),
         Err(LoadErr::Missing) => unbuilt(alloc, Answer::Missing),
         Err(LoadErr::TooLong) => unbuilt(alloc, Answer::TooLong),
         Err(LoadErr::Failed) => unbuilt(alloc, Answer::LoadFault),
@@ -137,7 +133,7 @@ fn work<F: Folder, O: Sink>(alloc: Global, file: &str, folder: &mut F, out: &mut
     }
 }
 
-// An outcome without a run.
+// An outcome without a run and without a refusal.
 fn unbuilt(alloc: Global, said: Answer) -> Outcome
     ensures said { result.said ≡ said }
     ensures report { result.report ≡ None }
@@ -146,20 +142,44 @@ fn unbuilt(alloc: Global, said: Answer) -> Outcome
         said,
         report: None,
         name: String::new(alloc),
+        refusal: Vec::new(alloc),
+    }
+}
+
+// The outcome of a file that breaks a rule. Without memory for its line it is want of memory.
+fn refused(alloc: Global, file: &str, refusal: Refusal) -> Outcome
+    ensures said { (result.said ≡ Answer.Refused refusal.line refusal.rule) ⊎ (result.said ≡ Answer.Memory) }
+    ensures line { IsRefusalLine result.said file.now result.refusal.items }
+    ensures report { result.report ≡ None }
+{
+    let mut line = Vec::new(alloc);
+    if refusal_line(file, &refusal, &mut line).is_err() {
+        return unbuilt(alloc, Answer::Memory);
+    }
+    Outcome {
+        said: Answer::Refused {
+            line: refusal.line,
+            rule: refusal.rule.number(),
+        },
+        report: None,
+        name: String::new(alloc),
+        refusal: line,
     }
 }
 
 // Compiles and runs the bytes of a file.
-fn build<O: Sink>(alloc: Global, bytes: &[u8], out: &mut O) -> Outcome
+fn build<O: Sink>(alloc: Global, file: &str, bytes: &[u8], out: &mut O) -> Outcome
+    requires { length bytes.now ≤ longest_file }
     ensures built { (input : List ℕ) → Built bytes.now input (O.written out.old) (O.written out.new) (O.faults out.old) (O.faults out.new) result.said result.report (string_bytes result.name) }
+    ensures line { IsRefusalLine result.said file.now result.refusal.items }
     ensures later { O.faults out.old ≤ O.faults out.new }
 {
-    match read_program(alloc, bytes) {
+    match compile(alloc, bytes) {
         Ok(program) => match run_program(alloc, &program, out) {
             Some(report) => named(alloc, report),
             None => unbuilt(alloc, Answer::Memory),
         },
-        Err(ReadErr::Refused) => unbuilt(alloc, Answer::Refused),
-        Err(ReadErr::Memory) => unbuilt(alloc, Answer::Memory),
+        Err(CompileErr::Refused(refusal)) => refused(alloc, file, refusal),
+        Err(CompileErr::Memory) => unbuilt(alloc, Answer::Memory),
     }
 }

@@ -2,6 +2,7 @@
 #![tactic(auto)]
 
 mod call;
+mod compiling;
 mod outcome;
 mod running;
 mod telling;

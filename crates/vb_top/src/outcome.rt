@@ -15,8 +15,8 @@ pub enum Answer {
     TooLong,
     /// The folder has failed.
     LoadFault,
-    /// The file is no program of the forms that are built.
-    Refused,
+    /// The file breaks a rule: the least line that breaks one, and the number of the least rule there.
+    Refused { line: u32, rule: u16 },
     /// There was no memory before the run.
     Memory,
     /// The program was run, to this stop.

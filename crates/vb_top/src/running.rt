@@ -22,13 +22,14 @@ const LIMITS: Limits = Limits {
     heap: 4_194_304,
 };
 
-/// What a program has come to: the answer, the report where it was run, and the full name of the class that was thrown,
-/// or no text.
+/// What a file has come to: the answer, the report where it was run, the full name of the class that was thrown, or no
+/// text, and the line that tells a refusal, or no text.
 #[derive(Drop)]
 pub struct Outcome {
     pub said: Answer,
     pub report: Option<Report>,
     pub name: String,
+    pub refusal: Vec<u8>,
 }
 
 /// Compiles and runs a program. There is no report where memory runs out before the run, and then nothing was written.
@@ -77,15 +78,15 @@ pub fn named(alloc: Global, report: Report) -> Outcome
 {
     match report.stop {
         Stop::Uncaught { thread: _, class } => match class_bytes(alloc, report.code.code(), class) {
-            Ok(name) => stopped(report, name),
-            Err(AllocError) => out_of_memory(report, String::new(alloc)),
+            Ok(name) => stopped(alloc, report, name),
+            Err(AllocError) => out_of_memory(alloc, report),
         },
-        _ => stopped(report, String::new(alloc)),
+        _ => stopped(alloc, report, String::new(alloc)),
     }
 }
 
 // The outcome of a run that is told as it stopped.
-fn stopped(report: Report, name: String) -> Outcome
+fn stopped(alloc: Global, report: Report, name: String) -> Outcome
     ensures said { result.said ≡ Answer.Stopped report.stop }
     ensures report { result.report ≡ Some report }
     ensures name { result.name ≡ name }
@@ -94,11 +95,12 @@ fn stopped(report: Report, name: String) -> Outcome
         said: Answer::Stopped(report.stop),
         report: Some(report),
         name,
+        refusal: Vec::new(alloc),
     }
 }
 
 // The outcome of a run that is told as want of memory.
-fn out_of_memory(report: Report, name: String) -> Outcome
+fn out_of_memory(alloc: Global, report: Report) -> Outcome
     ensures said { result.said ≡ Answer.Stopped Stop.Memory }
     ensures report { result.report ≡ Some (record report { stop = Stop.Memory }) }
 {
@@ -107,7 +109,8 @@ fn out_of_memory(report: Report, name: String) -> Outcome
     Outcome {
         said: Answer::Stopped(Stop::Memory),
         report: Some(report),
-        name,
+        name: String::new(alloc),
+        refusal: Vec::new(alloc),
     }
 }
 

@@ -1,15 +1,11 @@
 // Telling an answer by its status and its line.
-ghost use Rattle.std.specs.Prelude.{◌≡◌, ◌++◌, codes, IfOk, OnErr};
+ghost use Rattle.std.specs.Prelude.{◌≡◌, ◌++◌, codes};
 ghost use Rattle.std.specs.Fmt.{decimal};
 ghost use Rattle.vb_io.specs.Outside.{Writes};
 ghost use Rattle.vb_top.specs.Answers.{status_of as status_of_answer, status_of_stop as status_of_its_stop, line_of, line_of_stop, IsRefusalLine};
-ghost use Rattle.vb_diag.specs.Rules.{refusal_text};
-ghost use Rattle.vb_top.specs.declared.outcome.Answer.{Answer as Said};
 
 use crate::outcome::Answer;
 use itoa::Buffer;
-use std::alloc::{AllocError, Global};
-use vb_diag::{Refusal, Rule, refusal_line};
 use vb_io::{Failed, Sink, write_all, write_both};
 use vb_value::{Status, Stop};
 
@@ -19,9 +15,6 @@ const USAGE: &[u8] =
 const MISSING: &[u8] = b": not found\n";
 
 const TOO_LONG: &[u8] = b": longer than 4194304 bytes\n";
-
-// The rule against a form that isn't built yet.
-const UNBUILT: u16 = 999;
 
 const UNCAUGHT: &[u8] = b"uncaught on thread ";
 
@@ -43,7 +36,7 @@ pub fn status_of(said: Answer) -> Status
         Answer::Usage => Status::Usage,
         Answer::Missing | Answer::TooLong => Status::File,
         Answer::LoadFault => Status::Read,
-        Answer::Refused => Status::Refused,
+        Answer::Refused { .. } => Status::Refused,
         Answer::Memory => Status::Memory,
         Answer::Stopped(stop) => status_of_stop(stop),
     }
@@ -60,23 +53,6 @@ fn status_of_stop(stop: Stop) -> Status
         Stop::WriteFault => Status::Write,
         Stop::Memory => Status::Memory,
     }
-}
-
-/// The line of a refusal of the file, and no text where there is none. The error is want of memory for that line.
-pub fn refusal_of(alloc: Global, file: &str, said: Answer) -> Result<Vec<u8>, AllocError>
-    ensures line { IfOk result (λ v. IsRefusalLine said file.now v.items) }
-    ensures only { OnErr result (said ≡ Said.Refused) }
-{
-    let mut line = Vec::new(alloc);
-    if let Answer::Refused = said {
-        let unbuilt = Refusal {
-            rule: Rule::new(UNBUILT),
-            file: 0,
-            line: 1,
-        };
-        refusal_line(file, &unbuilt, &mut line)?;
-    }
-    Ok(line)
 }
 
 /// Writes the line of an answer about a file; `name` is the full name of the class that was thrown, and `refusal` the line
@@ -96,7 +72,7 @@ pub fn tell<E: Sink>(
         Answer::Missing => write_both(err, file.as_bytes(), MISSING),
         Answer::TooLong => write_both(err, file.as_bytes(), TOO_LONG),
         Answer::LoadFault => write_all(err, READ),
-        Answer::Refused => write_all(err, refusal),
+        Answer::Refused { .. } => write_all(err, refusal),
         Answer::Memory => write_all(err, MEMORY),
         Answer::Stopped(stop) => tell_stop(err, stop, name),
     }

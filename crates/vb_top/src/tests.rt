@@ -50,7 +50,7 @@ fn call(
 const RUN: &[&str] = &["run", "main.vb"];
 
 // Bodies of Main: what is written, what is told, the status.
-const BODIES: [(&str, &str, &str, u8); 10] = [
+const BODIES: [(&str, &str, &str, u8); 15] = [
     (
         "Dim i As Integer = 0;While i < 3;i = i + 1;Console.WriteLine(i * i);End While",
         "1\n4\n9\n",
@@ -106,6 +106,36 @@ const BODIES: [(&str, &str, &str, u8); 10] = [
         "uncaught on thread 0: System.OverflowException\n",
         3,
     ),
+    (
+        "Dim i As Integer _; = 3;Console.WriteLine(i +; 1)",
+        "4\n",
+        "",
+        0,
+    ),
+    (
+        ";Dim i As Integer = (1 +_; 2)",
+        "",
+        "main.vb(5): error V005: an underscore is no continuation and no part of a name\n",
+        1,
+    ),
+    (
+        "#Region \"values\";Dim [Dim] As Integer = &H10 ' sixteen;#End Region;Console.WriteLine([DIM]);REM none",
+        "16\n",
+        "",
+        0,
+    ),
+    (
+        "Dim Straße As Integer = 2;Console.WriteLine(STRAßE)",
+        "2\n",
+        "",
+        0,
+    ),
+    (
+        "Console.WriteLine(1) : Console.WriteLine(2)",
+        "",
+        "main.vb(1): error V999: the form isn't built yet\n",
+        1,
+    ),
 ];
 
 #[test]
@@ -116,6 +146,39 @@ fn bodies_run(rt: HostRuntime) -> Result<(), Fail> {
         assert_eq!(rt; seen.out.bytes(), out.as_bytes(), "{body}");
         assert_eq!(rt; seen.err.bytes(), err.as_bytes(), "{body}");
         assert_eq!(rt; seen.status.code(), status, "{body}");
+    }
+    Ok(())
+}
+
+// Files that break a lexical rule, and what is told.
+const BROKEN: [(&[u8], &str); 5] = [
+    (
+        b"\xffImports System",
+        "main.vb(1): error V001: the file isn't UTF-8\n",
+    ),
+    (
+        b"a\nb\nx = &HG",
+        "main.vb(3): error V004: a number literal is malformed or doesn't fit\n",
+    ),
+    (
+        b"#Region \"a\"\nx = &HG",
+        "main.vb(1): error V009: a region isn't closed or wasn't opened\n",
+    ),
+    (
+        b"a\rb = \"c",
+        "main.vb(2): error V003: a string or character literal is malformed\n",
+    ),
+    (b"", "main.vb(1): error V999: the form isn't built yet\n"),
+];
+
+#[test]
+fn broken_rules_are_told(rt: HostRuntime) -> Result<(), Fail> {
+    for (file, err) in BROKEN {
+        let file = Vec::from_slice(rt.alloc(), file)?;
+        let seen = call(rt.alloc(), RUN, file, &[], 64)?;
+        assert_eq!(rt; seen.err.bytes(), err.as_bytes());
+        assert_eq!(rt; seen.status.code(), 1);
+        assert_eq!(rt; seen.out.bytes().len(), 0);
     }
     Ok(())
 }

@@ -1,6 +1,6 @@
 use Rattle.std.proofs.Common.{ap}
 use Rattle.std.specs.Prelude.{string_bytes, Err}
-use Rattle.vb_syntax.specs.declared.tokens.ReadErr.{ReadErr}
+use Rattle.vb_top.specs.declared.compiling.CompileErr.{CompileErr}
 use Rattle.vb_top.proofs.Calls.{built_by, refused_built}
 use Rattle.vb_top.proofs.call.build.Goals as goal
 
@@ -11,4 +11,5 @@ returns-in-Some-clause-built g c = λ input.
 
 pub returns-in-Err-Refused-clause-built : goal.returns-in-Err-Refused-clause-built
 returns-in-Err-Refused-clause-built g c = λ input.
-    refused_built c.args.bytes.now input (g.O.Sink.written c.args.out.now) (g.O.Sink.faults c.args.out.now) c.unbuilt-in-Err-Refused.result.said c.unbuilt-in-Err-Refused.result.report (string_bytes c.unbuilt-in-Err-Refused.result.name) (c.in-Err-Refused.ensures.refused (ap (λ (e : ReadErr). Err e) c.in-Err-Refused.field-0-is)) c.unbuilt-in-Err-Refused.ensures.said c.unbuilt-in-Err-Refused.ensures.report
+    refused_built c.args.bytes.now input (g.O.Sink.written c.args.out.now) (g.O.Sink.faults c.args.out.now) c.refused.result.said c.in-Err-Refused.refusal.line c.in-Err-Refused.refusal.rule c.refused.result.report (string_bytes c.refused.result.name)
+    (c.in-Err-Refused.ensures.refused c.in-Err-Refused.refusal (ap (λ (e : CompileErr). Err e) c.in-Err-Refused.field-0-is)) c.refused.ensures.said c.refused.ensures.report

@@ -15,5 +15,5 @@ returns-in-LoadFault g c = rw c.in-LoadFault.is c.write_all-in-LoadFault.ensures
 
 pub returns-in-Refused : goal.returns-in-Refused
 returns-in-Refused g c =
-    let line : c.args.refusal.now ≡ refusal_text c.args.file.now 1 999 = subst (λ a. IsRefusalLine a c.args.file.now c.args.refusal.now) c.in-Refused.is c.requires in
+    let line : c.args.refusal.now ≡ refusal_text c.args.file.now c.in-Refused.line c.in-Refused.rule = subst (λ a. IsRefusalLine a c.args.file.now c.args.refusal.now) c.in-Refused.is c.requires in
     rw c.in-Refused.is (subst (λ l. Writes (g.E.Sink.written c.args.err.now) (g.E.Sink.written c.write_all-in-Refused.new.sink) (g.E.Sink.faults c.args.err.now) (g.E.Sink.faults c.write_all-in-Refused.new.sink) l c.write_all-in-Refused.result) line c.write_all-in-Refused.ensures)
