@@ -33,3 +33,6 @@ pub use types::{
     BuiltInTypeName, PrimitiveTypeName, QualifiedTypeName, SimpleTypeName, TypeConstraint,
     TypeName, TypeParameter,
 };
+
+#[cfg(test)]
+mod tests;
