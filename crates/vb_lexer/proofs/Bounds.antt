@@ -55,8 +55,10 @@ named_by : (m : Option ℕ) (n : ℕ) (text : List Character) → content_len (d
 named_by None n text e before some line = fault_within broken.NumberSign text some line
 named_by (Some m) n text e before some line =
     let closed = content_within (drop (n + 1) text) m e in
-    within_if (is_rest (behind_space (drop (n + m + 2) text))) (region_start (quoted_at (drop n text)).piece (n + m + 2) text) (fault broken.NumberSign text) text
-    (λ r. start_within (quoted_at (drop n text)).piece (n + m + 2) text (omega arith) (omega (arith, closed, length-drop (n + 1) text)) some line)
+    let rest = run_len is_remark (drop (n + m + 2) text) in
+    let few = run_le is_remark (drop (n + m + 2) text) in
+    within_if (is_rest (behind_space (drop (n + m + 2) text))) (region_start (quoted_at (drop n text)).piece (n + m + 2 + rest) text) (fault broken.NumberSign text) text
+    (λ r. start_within (quoted_at (drop n text)).piece (n + m + 2 + rest) text (omega arith) (omega (arith, closed, few, length-drop (n + 1) text, length-drop (n + m + 2) text)) some line)
     (λ r. fault_within broken.NumberSign text some line)
 
 start_of_within : (n : ℕ) (text : List Character) → 0 < length text → is_in_line (char_at text 0) ≡ true → Within (region_start_of n text) text
@@ -69,10 +71,10 @@ start_of_within n text some line =
 end_of_within : (n : ℕ) (text : List Character) → 0 < length text → is_in_line (char_at text 0) ≡ true → Within (region_end_of n text) text
 unfolding region_end_of
 end_of_within n text some line =
-    within_if (is_word_at (codes "region") (drop (n + 4) text) && is_rest (behind_space (drop (n + 10) text))) (found piece.RegionEnd (n + 10)) (fault broken.NumberSign text) text
+    within_if (is_word_at (codes "region") (drop (n + 4) text) && is_rest (behind_space (drop (n + 10) text))) (found piece.RegionEnd (n + 10 + run_len is_remark (drop (n + 10) text))) (fault broken.NumberSign text) text
     (λ e.
     let word = word_le (codes "region") (drop (n + 4) text) (and_parts (is_word_at (codes "region") (drop (n + 4) text)) (is_rest (behind_space (drop (n + 10) text))) e).0 in
-    (omega arith, omega (arith, word, length-drop (n + 4) text)))
+    (omega arith, omega (arith, word, run_le is_remark (drop (n + 10) text), length-drop (n + 4) text, length-drop (n + 10) text)))
     (λ e. fault_within broken.NumberSign text some line)
 
 region_within : (text : List Character) → 0 < length text → is_in_line (char_at text 0) ≡ true → Within (region_at text) text

@@ -15,7 +15,7 @@ use Rattle.vb_lexer.specs.declared.piece.Base.{Base}
 use Rattle.vb_lexer.specs.declared.piece.Base.TheVariants.{Decimal, Hexadecimal, Octal}
 use Rattle.vb_lexer.specs.declared.characters.Class.{Class}
 use Rattle.vb_lexer.specs.declared.characters.Class.TheVariants as class
-use Rattle.vb_lexer.specs.Characters.{Character, is_char, class_of, run_len, is_space, is_readable}
+use Rattle.vb_lexer.specs.Characters.{Character, is_char, class_of, is_remark, run_len, is_space, is_readable}
 use Rattle.vb_lexer.specs.Tables.{keywords, symbols}
 use Rattle.vb_lexer.specs.Tokens.{char_at, found, fault, longest_name, name_len, lowered, is_rem, keyword_in, keyword_or_name, word_of, connected_of, begins_name, bracketed_of, digits_len, base_number, value_from, literal_of, suffixes, suffix_in, suffix_type, suffix_len, starts, integer_or_fault, number_of, number_at, symbol_in, symbol_or_fault, symbol_at, ampersand_at, content_len, quoted_of, quoted_or_fault, quoted_at, units_of}
 use Rattle.vb_lexer.specs.Pieces.{ends_line, is_rest, behind_space, is_word_at, space_of, region_start, region_named, region_start_of, region_end_of, region_at, piece_of, piece_at}
@@ -93,7 +93,7 @@ region_by _ n text = refl
 named_plain : (m : Option ℕ) (n : ℕ) (text : List Character) → Plain (region_named m n text)
 named_plain None n text = refl
 named_plain (Some m) n text =
-    plain_if (is_rest (behind_space (drop (n + m + 2) text))) _ _ (region_by (quoted_at (drop n text)).piece (n + m + 2) text) refl
+    plain_if (is_rest (behind_space (drop (n + m + 2) text))) _ _ (region_by (quoted_at (drop n text)).piece (n + m + 2 + run_len is_remark (drop (n + m + 2) text)) text) refl
 
 start_plain : (n : ℕ) (text : List Character) → Plain (region_start_of n text)
 unfolding region_start_of

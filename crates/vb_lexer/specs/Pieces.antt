@@ -34,7 +34,7 @@ space_of n text =
 abbrev pub space_at : List Character → Found
 space_at text = space_of (run_len is_space (drop 2 text)) text
 
--- REGION LINES (3.2)
+-- REGION LINES (3.2); the piece is the whole line but its end
 
 -- nothing but white space and a comment stands in the rest of the line
 abbrev pub is_rest : List Character → Bool
@@ -56,7 +56,7 @@ region_start _ n text = fault broken.NumberSign text
 abbrev pub region_named : Option ℕ → ℕ → List Character → Found
 region_named None n text = fault broken.NumberSign text
 region_named (Some m) n text =
-    if is_rest (behind_space (drop (n + m + 2) text)) then region_start (quoted_at (drop n text)).piece (n + m + 2) text else fault broken.NumberSign text
+    if is_rest (behind_space (drop (n + m + 2) text)) then region_start (quoted_at (drop n text)).piece (n + m + 2 + run_len is_remark (drop (n + m + 2) text)) text else fault broken.NumberSign text
 
 -- #Region and a string literal; n counts the white space between them
 unfoldable pub region_start_of : ℕ → List Character → Found
@@ -66,7 +66,7 @@ region_start_of n text =
 -- #End and Region; n counts the white space between them
 unfoldable pub region_end_of : ℕ → List Character → Found
 region_end_of n text =
-    if is_word_at (codes "region") (drop (n + 4) text) && is_rest (behind_space (drop (n + 10) text)) then found piece.RegionEnd (n + 10) else fault broken.NumberSign text
+    if is_word_at (codes "region") (drop (n + 4) text) && is_rest (behind_space (drop (n + 10) text)) then found piece.RegionEnd (n + 10 + run_len is_remark (drop (n + 10) text)) else fault broken.NumberSign text
 
 abbrev pub region_at : List Character → Found
 region_at text =

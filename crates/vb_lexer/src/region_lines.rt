@@ -3,7 +3,7 @@ ghost use Rattle.std.specs.Prelude.{◌≡◌, ◌<◌, ◌≤◌, ◌+◌, leng
 ghost use Rattle.vb_lexer.specs.Tokens as tokens;
 ghost use Rattle.vb_lexer.specs.Pieces as spec;
 
-use crate::characters::{behind, ends_line, is_at, name_at, space_len};
+use crate::characters::{behind, ends_line, is_at, name_at, remark_len, space_len};
 use crate::keywords::is_word;
 use crate::literals::{content_len, quoted_at};
 use crate::piece::{Fault, Found, Piece, broken, make_found};
@@ -53,7 +53,8 @@ fn region_start_of(spaces: usize, text: &[Option<char>]) -> Found
     };
     let length = spaces + 7 + content + 2;
     if is_rest(behind_space(behind(text, length))) {
-        region_start(quoted_at(behind(text, spaces + 7)).piece, length, text)
+        let whole = length + remark_len(behind(text, length));
+        region_start(quoted_at(behind(text, spaces + 7)).piece, whole, text)
     } else {
         broken(Fault::NumberSign, text)
     }
@@ -68,7 +69,10 @@ fn region_end_of(spaces: usize, text: &[Option<char>]) -> Found
     if is_word_at(behind(text, spaces + 4), b"region")
         && is_rest(behind_space(behind(text, spaces + 10)))
     {
-        make_found(Piece::RegionEnd, spaces + 10)
+        make_found(
+            Piece::RegionEnd,
+            spaces + 10 + remark_len(behind(text, spaces + 10)),
+        )
     } else {
         broken(Fault::NumberSign, text)
     }

@@ -17,20 +17,7 @@ pub fn longest_symbol()
 pub fn symbol_len(symbol: Symbol) -> usize
     ensures { result ≡ length (symbol_text symbol) }
 {
-    match symbol {
-        Symbol::ShiftLeftEqual | Symbol::ShiftRightEqual => 3,
-        Symbol::NotEqual
-        | Symbol::LessOrEqual
-        | Symbol::GreaterOrEqual
-        | Symbol::ShiftLeft
-        | Symbol::ShiftRight
-        | Symbol::PlusEqual
-        | Symbol::MinusEqual
-        | Symbol::TimesEqual
-        | Symbol::BackslashEqual
-        | Symbol::AmpersandEqual => 2,
-        _ => 1,
-    }
+    symbol.text().len()
 }
 
 /// The longest symbol at the front.

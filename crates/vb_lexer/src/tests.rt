@@ -479,6 +479,11 @@ const REGIONS: &[(&str, &str)] = &[
     ("a +\n#b", "V008 at 1"),
     ("a\n#b\n)", "V008 at 2"),
     ("(\n#Region \"a\"\n)", "V009 at 2"),
+    ("a.\n#Region \"b\" REM c\nb\n#End Region REM", "1: a . b"),
+    (
+        "a.\n#Region \"b\"\n#End Region REM\nMod\nb",
+        "1: a . Mod | 5: b",
+    ),
     ("\"#\" ' #\na", "1: \"#\" | 2: a"),
 ];
 
