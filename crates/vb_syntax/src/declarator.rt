@@ -5,17 +5,10 @@ use crate::types::{SimpleTypeName, TypeName};
 use sqlite_items::Items;
 use vb_text::Name;
 
-/// Variables or constants that one `As` declares, or one whose type is that of its value
-/// (Visual Basic Language Specification 11.0, 9.5, 9.6 and 10.2).
+/// Variables or constants that one `As` declares, or one whose type is that of its value, in one of three forms
+/// (Visual Basic Language Specification 11.0, 9.5, 9.6 and 10.2). Its line is that of the declaration that it stands in.
 #[derive(Drop)]
-pub struct Declarator {
-    pub line: u32,
-    pub form: DeclaratorForm,
-}
-
-/// The three forms of a declarator (Visual Basic Language Specification 11.0, 9.6 and 9.6.3).
-#[derive(Drop)]
-pub enum DeclaratorForm {
+pub enum Declarator {
     /// `As` and a type, with a first value or without.
     As(Items<VariableIdentifier>, TypeName, Option<VariableInitializer>),
     /// `As New`: each variable gets a new object of the class, made with these arguments.

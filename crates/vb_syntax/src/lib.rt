@@ -4,6 +4,7 @@
 mod declaration;
 mod declarator;
 mod expression;
+mod item;
 mod keyword;
 mod statement;
 mod symbol;
@@ -17,10 +18,11 @@ pub use declaration::{
     OptionStatement, OptionSwitch, Parameter, PassedBy, PropertyAccessors, PropertyKind,
     SetAccessor, SourceFile, TypeDeclaration, TypeForm,
 };
-pub use declarator::{Declarator, DeclaratorForm, VariableIdentifier, VariableModifier};
+pub use declarator::{Declarator, VariableIdentifier, VariableModifier};
 pub use expression::{
     BinaryOperator, CastOperator, Expr, RelationalOperator, UnaryOperator, VariableInitializer,
 };
+pub use item::{BlockWord, Item};
 pub use keyword::Keyword;
 pub use statement::{
     Block, BlockClause, CaseClause, CaseItem, CatchClause, CatchVariable, CompoundOperator,
