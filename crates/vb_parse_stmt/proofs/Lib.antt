@@ -1,0 +1,5 @@
+pub mod Wholes
+pub mod Pairs
+pub mod Refusals
+pub mod Firsts
+pub mod Same
