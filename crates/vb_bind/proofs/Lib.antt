@@ -1,8 +1,9 @@
 pub mod Steps
 pub mod Blocks
-pub mod Tokens
+pub mod Trees
 pub mod OneLine
 pub mod Bodies
 pub mod Declared
 pub mod Files
 pub mod Widest
+pub mod OneForm

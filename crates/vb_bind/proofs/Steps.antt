@@ -1,15 +1,15 @@
--- The steps of reading token lines.
+-- The steps of reading items.
 use Rattle.std.proofs.Common.{◌≡◌, ℕ, ◌+◌, ◌<◌, Bool, true, false, List, [], ◌∷◌, ◌++◌, length, Option, Some, None, refl, sym, ap, subst, ◌∙◌, arith}
 use Rattle.std.specs.Prelude.{◌==◌, if◌then◌else◌}
 use Rattle.vb_text.specs.declared.names.Name.{Name}
-use Rattle.vb_syntax.specs.declared.tokens.Token.{Token}
+use Rattle.vb_syntax.specs.declared.item.Item.{Item}
 use Rattle.vb_bound.specs.declared.tree.Operand.{Operand}
 use Rattle.vb_bound.specs.declared.tree.Line.{Line}
 use Rattle.vb_bound.specs.Tree.{outline, IsInitialOf, IsLineOf, AreLocals, AreLines}
 use Rattle.vb_bind.specs.declared.names.KnownNames.{KnownNames}
 use Rattle.vb_bind.specs.Parsing.{and_then, is_ends, line_read, lines_read, dim_read, dim_or, is_new, dims_read, file_read, line_depth, depth_after}
 
-pub next_line : (known : KnownNames) (names : List Name) (locals : List (Option Operand)) (lines grown : List Line) (depth next : ℕ) (rest : List (List Token)) (l : List Token) (behind : List (List Token)) (x : Line) → rest ≡ l ∷ behind → is_ends rest ≡ false → line_read known names l ≡ Some x → line_depth depth x ≡ Some next → grown ≡ lines ++ x ∷ [] → lines_read known names locals lines depth rest ≡ lines_read known names locals grown next behind
+pub next_line : (known : KnownNames) (names : List Name) (locals : List (Option Operand)) (lines grown : List Line) (depth next : ℕ) (rest : List Item) (l : Item) (behind : List Item) (x : Line) → rest ≡ l ∷ behind → is_ends rest ≡ false → line_read known names l ≡ Some x → line_depth depth x ≡ Some next → grown ≡ lines ++ x ∷ [] → lines_read known names locals lines depth rest ≡ lines_read known names locals grown next behind
 next_line known names locals lines grown depth next rest l behind x e ends read counted grows =
     ap (λ r. lines_read known names locals lines depth r) e
     ∙ ap (λ (p : Bool). if p then (if depth == 0 then Some (outline locals lines) else None) else and_then (line_read known names l) (λ y. and_then (line_depth depth y) (λ d. lines_read known names locals (lines ++ y ∷ []) d behind))) (ap is_ends (sym e) ∙ ends)
@@ -35,38 +35,24 @@ pub more_dims : (n : ℕ) (ds : List (Option Operand)) (d : Option Operand) → 
 more_dims n [] d h k = let e : n + 0 ≡ n = omega arith in (subst (λ m. IsInitialOf m d) e k, tt)
 more_dims n (x ∷ ds) d h k = let e : n + length (x ∷ ds) ≡ n + 1 + length ds = omega arith in (h.0, more_dims (n + 1) ds d h.1 (subst (λ m. IsInitialOf m d) e k))
 
-dim_next : (known : KnownNames) (m : Name) (names : List Name) (dims : List (Option Operand)) (rest : List (List Token)) (l : List Token) (behind : List (List Token)) (s : Name) (i : Option Operand) → rest ≡ l ∷ behind → dim_read known names l ≡ Some (s, i) → dims_read known m names dims rest ≡ (if is_new m names s then dims_read known m (names ++ s ∷ []) (dims ++ i ∷ []) behind else None)
+dim_next : (known : KnownNames) (m : Name) (names : List Name) (dims : List (Option Operand)) (rest : List Item) (l : Item) (behind : List Item) (s : Name) (i : Option Operand) → rest ≡ l ∷ behind → dim_read known names l ≡ Some (s, i) → dims_read known m names dims rest ≡ (if is_new m names s then dims_read known m (names ++ s ∷ []) (dims ++ i ∷ []) behind else None)
 dim_next known m names dims rest l behind s i e read =
     ap (λ r. dims_read known m names dims r) e
     ∙ ap (λ o. dim_or o (lines_read known names dims [] 0 (l ∷ behind)) (λ s i. if is_new m names s then dims_read known m (names ++ s ∷ []) (dims ++ i ∷ []) behind else None)) read
 
-pub dim_more : (known : KnownNames) (m : Name) (names grown : List Name) (dims more : List (Option Operand)) (rest : List (List Token)) (l : List Token) (behind : List (List Token)) (s : Name) (i : Option Operand) → rest ≡ l ∷ behind → dim_read known names l ≡ Some (s, i) → is_new m names s ≡ true → grown ≡ names ++ s ∷ [] → more ≡ dims ++ i ∷ [] → dims_read known m names dims rest ≡ dims_read known m grown more behind
+pub dim_more : (known : KnownNames) (m : Name) (names grown : List Name) (dims more : List (Option Operand)) (rest : List Item) (l : Item) (behind : List Item) (s : Name) (i : Option Operand) → rest ≡ l ∷ behind → dim_read known names l ≡ Some (s, i) → is_new m names s ≡ true → grown ≡ names ++ s ∷ [] → more ≡ dims ++ i ∷ [] → dims_read known m names dims rest ≡ dims_read known m grown more behind
 dim_more known m names grown dims more rest l behind s i e read new a b =
     dim_next known m names dims rest l behind s i e read
     ∙ ap (λ (p : Bool). if p then dims_read known m (names ++ s ∷ []) (dims ++ i ∷ []) behind else None) new
     ∙ ap (λ n. dims_read known m n (dims ++ i ∷ []) behind) (sym a) ∙ ap (λ d. dims_read known m grown d behind) (sym b)
 
-pub short_file : (known : KnownNames) (ls : List (List Token)) → length ls < 3 → file_read known ls ≡ None
+pub short_file : (known : KnownNames) (ls : List Item) → length ls < 3 → file_read known ls ≡ None
 short_file known [] h = refl
 short_file known (a ∷ []) h = refl
 short_file known (a ∷ b ∷ []) h = refl
 short_file known (a ∷ b ∷ c ∷ ls) h = absurd (omega arith)
 
--- LINES OF ANOTHER LENGTH
-
-pub short_line : (known : KnownNames) (names : List Name) (ts : List Token) → length ts < 2 → line_read known names ts ≡ None
-short_line known names [] h = refl
-short_line known names (a ∷ []) h = refl
-short_line known names (a ∷ b ∷ ts) h = absurd (omega arith)
-
-pub short_dim : (known : KnownNames) (names : List Name) (ts : List Token) → length ts < 4 → dim_read known names ts ≡ None
-short_dim known names [] h = refl
-short_dim known names (a ∷ []) h = refl
-short_dim known names (a ∷ b ∷ []) h = refl
-short_dim known names (a ∷ b ∷ c ∷ []) h = refl
-short_dim known names (a ∷ b ∷ c ∷ d ∷ ts) h = absurd (omega arith)
-
-pub other_ends : (ls : List (List Token)) → (length ls ≡ 2 → ⊥) → is_ends ls ≡ false
+pub other_ends : (ls : List Item) → (length ls ≡ 2 → ⊥) → is_ends ls ≡ false
 other_ends [] h = refl
 other_ends (a ∷ []) h = refl
 other_ends (a ∷ b ∷ []) h = absurd (h refl)

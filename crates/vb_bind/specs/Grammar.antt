@@ -1,15 +1,27 @@
--- Which lines of tokens are a program.
+-- Which items, the syntax trees of the lines of a file, are a program.
 use Rattle.std.specs.Prelude.{◌≡◌, ◌⊎◌, ℕ, FitsSigned, if◌then◌else◌, nat_le, List, [], ◌∷◌, ◌++◌, map, length, Option, Some, None, slice_get, unwrap_or, codes}
 use Rattle.std.specs.Int.{w32}
 use Rattle.vb_text.specs.Names.{IsNameOf, with_name}
 use Rattle.vb_text.specs.declared.names.Name.{Name}
-use Rattle.vb_syntax.specs.declared.keyword.Keyword.TheVariants as word
-use Rattle.vb_syntax.specs.declared.symbol.Symbol.{Symbol}
-use Rattle.vb_syntax.specs.declared.symbol.Symbol.TheVariants as sign
 use Rattle.vb_syntax.specs.declared.tokens.IntegerType.TheVariants as kind
-use Rattle.vb_syntax.specs.declared.tokens.Token.{Token}
-use Rattle.vb_syntax.specs.declared.tokens.Token.TheVariants as token
 use Rattle.vb_syntax.specs.declared.tokens.Line.{Line as TokenLine}
+use Rattle.vb_syntax.specs.declared.types.PrimitiveTypeName.TheVariants as primitive
+use Rattle.vb_syntax.specs.declared.types.BuiltInTypeName.TheVariants as built_in
+use Rattle.vb_syntax.specs.declared.types.SimpleTypeName.TheVariants as simple
+use Rattle.vb_syntax.specs.declared.types.TypeName.TheVariants as type_name
+use Rattle.vb_syntax.specs.declared.expression.RelationalOperator.{RelationalOperator}
+use Rattle.vb_syntax.specs.declared.expression.RelationalOperator.TheVariants as relational
+use Rattle.vb_syntax.specs.declared.expression.BinaryOperator.{BinaryOperator}
+use Rattle.vb_syntax.specs.declared.expression.BinaryOperator.TheVariants as binary
+use Rattle.vb_syntax.specs.declared.expression.Expr.{Expr as SyntaxExpr}
+use Rattle.vb_syntax.specs.declared.expression.Expr.TheVariants as tree
+use Rattle.vb_syntax.specs.declared.expression.VariableInitializer.{VariableInitializer}
+use Rattle.vb_syntax.specs.declared.expression.VariableInitializer.TheVariants as init
+use Rattle.vb_syntax.specs.declared.declarator.VariableModifier.TheVariants as modifier
+use Rattle.vb_syntax.specs.declared.declarator.Declarator.TheVariants as declarator
+use Rattle.vb_syntax.specs.declared.item.Item.{Item}
+use Rattle.vb_syntax.specs.declared.item.Item.TheVariants as item
+use Rattle.vb_syntax.specs.declared.item.BlockWord.TheVariants as block
 use Rattle.vb_bound.specs.declared.tree.LocalId.{LocalId}
 use Rattle.vb_bound.specs.declared.tree.Operand.{Operand}
 use Rattle.vb_bound.specs.declared.tree.Operand.TheVariants.{Local, Number}
@@ -34,65 +46,64 @@ AreKnown table known = IsNameOf table (codes "System") known.system × IsNameOf 
 abbrev pub with_known : List (List ℕ) → List (List ℕ)
 with_known table = with_name (with_name (with_name (with_name table (codes "System")) (codes "Console")) (codes "WriteLine")) (codes "Main")
 
--- THE TOKENS OF A PROGRAM
-
--- the token, where a name between brackets is a name as any other (Visual Basic Language Specification 11.0, 2.2)
-abbrev pub unescaped : Token → Token
-unescaped (token.EscapedName n) = token.Name n
-unescaped t = t
+-- THE ITEMS OF A PROGRAM
 
 -- the name of a local; a local has one in every bound program
 abbrev pub name_at : List Name → LocalId → Name
 name_at names x = unwrap_or (slice_get names x.0) (record { index = 0 })
 
-abbrev pub operand_token : List Name → Operand → Token
-operand_token names (Local x) = token.Name (name_at names x)
-operand_token names (Number v) = token.Integer (record { kind = kind.Integer; value = v })
+abbrev pub operand_tree : List Name → Operand → SyntaxExpr
+operand_tree names (Local x) = tree.SimpleName (name_at names x) []
+operand_tree names (Number v) = tree.Integer (record { kind = kind.Integer; value = v })
 
-abbrev pub operator_sign : Operator → Symbol
-operator_sign Add = sign.Plus
-operator_sign Sub = sign.Minus
-operator_sign Mul = sign.Times
+abbrev pub binary_of : Operator → BinaryOperator
+binary_of Add = binary.Add
+binary_of Sub = binary.Subtract
+binary_of Mul = binary.Multiply
 
-abbrev pub relation_sign : Relation → Symbol
-relation_sign Equal = sign.Equal
-relation_sign NotEqual = sign.NotEqual
-relation_sign Less = sign.Less
-relation_sign LessOrEqual = sign.LessOrEqual
-relation_sign Greater = sign.Greater
-relation_sign GreaterOrEqual = sign.GreaterOrEqual
+abbrev pub relation_of : Relation → RelationalOperator
+relation_of Equal = relational.Equal
+relation_of NotEqual = relational.NotEqual
+relation_of Less = relational.Less
+relation_of LessOrEqual = relational.LessOrEqual
+relation_of Greater = relational.Greater
+relation_of GreaterOrEqual = relational.GreaterOrEqual
 
-abbrev pub expr_tokens : List Name → Expr → List Token
-expr_tokens names (One p) = operand_token names p ∷ []
-expr_tokens names (Two p o q) = operand_token names p ∷ token.Symbol (operator_sign o) ∷ operand_token names q ∷ []
+abbrev pub expr_tree : List Name → Expr → SyntaxExpr
+expr_tree names (One p) = operand_tree names p
+expr_tree names (Two p o q) = tree.Binary (binary_of o) (operand_tree names p) (operand_tree names q)
 
-abbrev pub statement_tokens : KnownNames → List Name → Statement → List Token
-statement_tokens known names (Assign x e) = token.Name (name_at names x) ∷ token.Symbol sign.Equal ∷ expr_tokens names e
-statement_tokens known names (WriteLine e) = token.Name known.console ∷ token.Symbol sign.Dot ∷ token.Name known.write_line ∷ token.Symbol sign.OpenParenthesis ∷ (expr_tokens names e ++ token.Symbol sign.CloseParenthesis ∷ [])
+abbrev pub statement_item : KnownNames → List Name → Statement → Item
+statement_item known names (Assign x e) = item.Assignment (tree.SimpleName (name_at names x) []) (expr_tree names e)
+statement_item known names (WriteLine e) = item.Invocation (tree.Invocation (tree.MemberAccess (tree.SimpleName known.console []) known.write_line []) (expr_tree names e ∷ []))
 
-abbrev pub line_tokens : KnownNames → List Name → Line → List Token
-line_tokens known names (Does s) = statement_tokens known names s
-line_tokens known names (While test) = token.Keyword word.While ∷ operand_token names test.left ∷ token.Symbol (relation_sign test.relation) ∷ operand_token names test.right ∷ []
-line_tokens known names EndWhile = token.Keyword word.End ∷ token.Keyword word.While ∷ []
+abbrev pub line_item : KnownNames → List Name → Line → Item
+line_item known names (Does s) = statement_item known names s
+line_item known names (While test) = item.While (tree.Binary (binary.Relational (relation_of test.relation)) (operand_tree names test.left) (operand_tree names test.right))
+line_item known names EndWhile = item.End block.While
 
-abbrev pub initial_tokens : List Name → Option Operand → List Token
-initial_tokens names None = []
-initial_tokens names (Some p) = token.Symbol sign.Equal ∷ operand_token names p ∷ []
+abbrev pub initial_tree : List Name → Option Operand → Option VariableInitializer
+initial_tree names None = None
+initial_tree names (Some p) = Some (init.Expression (operand_tree names p))
+
+-- the declaration of one Integer of this name, where all names are these
+abbrev pub dim_item : List Name → Name → Option Operand → Item
+dim_item all n d = item.Dim (declarator.As (record { name = n; modifier = modifier.Plain } ∷ []) (type_name.Simple (simple.BuiltIn (built_in.Primitive primitive.Integer))) (initial_tree all d) ∷ [])
 
 -- the declarations of the names that are left, of all names
-abbrev pub dim_lines : List Name → List Name → List (Option Operand) → List (List Token)
-dim_lines all (n ∷ ns) (d ∷ ds) = (token.Keyword word.Dim ∷ token.Name n ∷ token.Keyword word.As ∷ token.Keyword word.Integer ∷ initial_tokens all d) ∷ dim_lines all ns ds
-dim_lines all ns ds = []
+abbrev pub dim_items : List Name → List Name → List (Option Operand) → List Item
+dim_items all (n ∷ ns) (d ∷ ds) = dim_item all n d ∷ dim_items all ns ds
+dim_items all ns ds = []
 
--- the token lines of the program of the module m whose locals have these names
-abbrev pub file_lines : KnownNames → Name → List Name → Tree → List (List Token)
-file_lines known m names t =
-    (token.Keyword word.Imports ∷ token.Name known.system ∷ [])
-    ∷ (token.Keyword word.Module ∷ token.Name m ∷ [])
-    ∷ (token.Keyword word.Sub ∷ token.Name known.main ∷ token.Symbol sign.OpenParenthesis ∷ token.Symbol sign.CloseParenthesis ∷ [])
-    ∷ (dim_lines names names t.locals
-    ++ (map (λ l. line_tokens known names l) (lines_of t.body)
-    ++ ((token.Keyword word.End ∷ token.Keyword word.Sub ∷ []) ∷ (token.Keyword word.End ∷ token.Keyword word.Module ∷ []) ∷ [])))
+-- the items of the program of the module m whose locals have these names
+abbrev pub file_items : KnownNames → Name → List Name → Tree → List Item
+file_items known m names t =
+    item.Imports ((known.system ∷ []) ∷ [])
+    ∷ item.Module m
+    ∷ item.Sub known.main
+    ∷ (dim_items names names t.locals
+    ++ (map (λ l. line_item known names l) (lines_of t.body)
+    ++ (item.End block.Sub ∷ item.End block.Module ∷ [])))
 
 -- NAMES (Visual Basic Language Specification 11.0, 2.2)
 
@@ -163,16 +174,28 @@ AreFitInitials (d ∷ ds) = IsFitInitial d × AreFitInitials ds
 
 -- THE PROGRAM
 
--- The lines are those of the module m whose Main has these locals and this body.
-pub record IsProgramOf (known : KnownNames) (lines : List TokenLine) (t : Tree) : Type 0 where
+-- The items are those of the module m whose Main has these locals and this body.
+pub record IsProgramOf (known : KnownNames) (items : List Item) (t : Tree) : Type 0 where
   pub m : Name
   pub names : List Name
-  pub lines_are : map (λ l. map unescaped l.tokens) lines ≡ file_lines known m names t
+  pub items_are : items ≡ file_items known m names t
   pub counted : length names ≡ length t.locals
   pub distinct : AreDistinctNames known (m ∷ names)
   pub bound : IsBound (outline t.locals (lines_of t.body))
   pub mixed : AreMixedLines (lines_of t.body)
   pub fit : AreFitInitials t.locals × AreFitLines (lines_of t.body)
+
+-- The item is one of a program, whatever the names and the numbers are.
+pub data IsForm (known : KnownNames) : Item → Type 0 where
+  imports : IsForm known (item.Imports ((known.system ∷ []) ∷ []))
+  module_header : (m : Name) → IsForm known (item.Module m)
+  main_header : IsForm known (item.Sub known.main)
+  declaration : (names : List Name) (n : Name) (d : Option Operand) → IsFitInitial d → IsForm known (dim_item names n d)
+  line : (names : List Name) (l : Line) → IsFitLine l → IsForm known (line_item known names l)
+  main_end : IsForm known (item.End block.Sub)
+  module_end : IsForm known (item.End block.Module)
+
+-- THE WIDEST LINE OF A FILE
 
 -- the greater
 abbrev pub greater : ℕ → ℕ → ℕ

@@ -1,11 +1,13 @@
-//! Reads the logical lines of a Visual Basic file into a program whose names are bound.
+//! Reads the items of a Visual Basic file, the syntax trees of its lines, into a program whose names are bound.
 #![tactic(auto)]
 
+mod expressions;
+mod forms;
 mod lines;
 mod names;
 mod program;
-mod words;
 
+pub use forms::has_form;
 pub use names::KnownNames;
 pub use program::{ReadErr, one_program, read_program};
 

@@ -1,13 +1,11 @@
 // Names: those that the grammar uses, those of locals and that of the module.
 ghost use Rattle.std.specs.Prelude.{◌≡◌, ◌<◌, length, IfOk, IfSome, OnOk};
 ghost use Rattle.vb_text.specs.Names.{Extends};
-ghost use Rattle.vb_bind.specs.Grammar.{AreKnown, with_known, unescaped};
-ghost use Rattle.vb_bind.specs.Parsing.{is_one_of, is_free as is_free_name, name_read, is_new, local_from};
+ghost use Rattle.vb_bind.specs.Grammar.{AreKnown, with_known};
+ghost use Rattle.vb_bind.specs.Parsing.{is_one_of, same_name, is_free as is_free_name, name_read, is_new, local_from};
 
-use crate::words::{is_same, name_of};
 use std::alloc::AllocError;
 use vb_bound::LocalId;
-use vb_syntax::Token;
 use vb_text::{Name, NameTable, names_stay};
 
 /// The names that the grammar of a program uses (Visual Basic Language Specification 11.0, 2.2), of one table of names:
@@ -48,11 +46,17 @@ impl KnownNames {
     }
 }
 
-// The name that a token gives to a local or a module, where it may.
-pub fn new_name_of(known: &KnownNames, token: &Token) -> Option<Name>
-    ensures { result ≡ name_read known.now (unescaped token.now) }
+// Whether two names are one.
+pub fn is_same(left: Name, right: Name) -> bool
+    ensures { result ≡ same_name left right }
 {
-    let name = name_of(token)?;
+    left == right
+}
+
+// The name, where a local or the module may have it.
+pub fn new_name_of(known: &KnownNames, name: Name) -> Option<Name>
+    ensures { result ≡ name_read known.now name }
+{
     if is_free(known, name) {
         Some(name)
     } else {

@@ -1,94 +1,192 @@
 use super::*;
-use sqlite_items::Items;
+use sqlite_items::{Boxed, Items};
 use std::alloc::{AllocError, Global};
 use std::test::Fail;
-use vb_bound::{Expr, Operand, Program, Statement};
-use vb_syntax::{IntegerLiteral, IntegerType, Keyword, Line, Symbol, Token};
-use vb_text::NameTable;
+use vb_bound::{Operand, Program, Statement};
+use vb_syntax::{
+    BinaryOperator, BlockWord, BuiltInTypeName, Declarator, Expr, IntegerLiteral, IntegerType,
+    Item, PrimitiveTypeName, RelationalOperator, SimpleTypeName, TypeName, VariableIdentifier,
+    VariableInitializer, VariableModifier,
+};
+use vb_text::{Name, NameTable};
 
-// The words of the cases that are reserved.
-fn keyword(word: &str) -> Option<Keyword> {
+// The operators of the cases.
+fn operator(word: &str) -> BinaryOperator {
     match word {
-        "As" => Some(Keyword::As),
-        "Dim" => Some(Keyword::Dim),
-        "End" => Some(Keyword::End),
-        "If" => Some(Keyword::If),
-        "Imports" => Some(Keyword::Imports),
-        "Integer" => Some(Keyword::Integer),
-        "Long" => Some(Keyword::Long),
-        "Module" => Some(Keyword::Module),
-        "Sub" => Some(Keyword::Sub),
-        "Then" => Some(Keyword::Then),
-        "While" => Some(Keyword::While),
-        "Xor" => Some(Keyword::Xor),
-        _ => None,
+        "+" => BinaryOperator::Add,
+        "*" => BinaryOperator::Multiply,
+        "<>" => BinaryOperator::Relational(RelationalOperator::NotEqual),
+        "<" => BinaryOperator::Relational(RelationalOperator::Less),
+        "<=" => BinaryOperator::Relational(RelationalOperator::LessOrEqual),
+        _ => BinaryOperator::And,
     }
 }
 
-// The symbols of the cases.
-fn symbol(word: &str) -> Option<Symbol> {
-    match word {
-        "." => Some(Symbol::Dot),
-        ":" => Some(Symbol::Colon),
-        "(" => Some(Symbol::OpenParenthesis),
-        ")" => Some(Symbol::CloseParenthesis),
-        "=" => Some(Symbol::Equal),
-        "<>" => Some(Symbol::NotEqual),
-        "<" => Some(Symbol::Less),
-        "<=" => Some(Symbol::LessOrEqual),
-        ">=" => Some(Symbol::GreaterOrEqual),
-        "+" => Some(Symbol::Plus),
-        "*" => Some(Symbol::Times),
-        _ => None,
-    }
-}
-
-// A literal: decimal, after &H in base 16, and Long where it ends in L.
+// A literal, Long where it ends in L.
 fn literal(word: &str) -> Option<IntegerLiteral> {
     let (digits, kind) = match word.strip_suffix('L') {
         Some(digits) => (digits, IntegerType::Long),
         None => (word, IntegerType::Integer),
     };
-    let (digits, radix) = match digits.strip_prefix("&H") {
-        Some(digits) => (digits, 16),
-        None => (digits, 10),
-    };
-    let value = i128::from_str_radix(digits, radix).ok()?;
+    let value = i128::from_str_radix(digits, 10).ok()?;
     Some(IntegerLiteral { kind, value })
 }
 
-fn token(names: &mut NameTable, word: &str) -> Result<Token, AllocError> {
-    if let Some(keyword) = keyword(word) {
-        return Ok(Token::Keyword(keyword));
-    }
-    if let Some(symbol) = symbol(word) {
-        return Ok(Token::Symbol(symbol));
-    }
-    if let Some(literal) = literal(word) {
-        return Ok(Token::Integer(literal));
-    }
-    match word.strip_prefix('[') {
-        Some(rest) => Ok(Token::EscapedName(names.intern(rest.strip_suffix(']').unwrap_or(rest))?)),
-        None => Ok(Token::Name(names.intern(word)?)),
+fn operand(alloc: Global, names: &mut NameTable, word: &str) -> Result<Expr, AllocError> {
+    match literal(word) {
+        Some(literal) => Ok(Expr::Integer(literal)),
+        None => Ok(Expr::SimpleName(names.intern(word)?, Items::new(alloc))),
     }
 }
 
-// Appends a line whose words stand apart.
-fn push_line(
+fn two(
     alloc: Global,
     names: &mut NameTable,
-    lines: &mut Vec<Line>,
-    text: &str,
-) -> Result<(), Fail> {
-    let mut tokens = Items::new(alloc);
-    for word in text.split(' ') {
-        tokens.push(token(names, word)?)?;
+    left: &str,
+    sign: &str,
+    right: &str,
+) -> Result<Expr, AllocError> {
+    let left = Boxed::new(alloc, operand(alloc, names, left)?)?;
+    let right = Boxed::new(alloc, operand(alloc, names, right)?)?;
+    Ok(Expr::Binary(operator(sign), left, right))
+}
+
+// An operand, or an operator between two.
+fn expr(alloc: Global, names: &mut NameTable, text: &str) -> Result<Expr, AllocError> {
+    match text.split_once(' ') {
+        Some((left, behind)) => match behind.split_once(' ') {
+            Some((sign, right)) => two(alloc, names, left, sign, right),
+            None => operand(alloc, names, left),
+        },
+        None => operand(alloc, names, text),
     }
-    lines.push(Line {
-        file: 0,
-        number: 1,
-        tokens,
-    })?;
+}
+
+fn imports(alloc: Global, name: Name) -> Result<Item, AllocError> {
+    let mut parts = Items::new(alloc);
+    parts.push(name)?;
+    let mut namespaces = Items::new(alloc);
+    namespaces.push(parts)?;
+    Ok(Item::Imports(namespaces))
+}
+
+fn block_end(word: &str) -> Item {
+    match word {
+        "Sub" => Item::End(BlockWord::Sub),
+        "Module" => Item::End(BlockWord::Module),
+        _ => Item::End(BlockWord::While),
+    }
+}
+
+// A variable, of an array where `()` stands behind its name.
+fn variable(names: &mut NameTable, text: &str) -> Result<VariableIdentifier, AllocError> {
+    let (name, modifier) = match text.strip_suffix("()") {
+        Some(name) => (name, VariableModifier::Array),
+        None => (text, VariableModifier::Plain),
+    };
+    Ok(VariableIdentifier {
+        name: names.intern(name)?,
+        modifier,
+    })
+}
+
+fn type_name(word: &str) -> TypeName {
+    let primitive = match word {
+        "Integer" => PrimitiveTypeName::Integer,
+        _ => PrimitiveTypeName::Long,
+    };
+    TypeName::Simple(SimpleTypeName::BuiltIn(BuiltInTypeName::Primitive(primitive)))
+}
+
+fn initial(
+    alloc: Global,
+    names: &mut NameTable,
+    value: Option<&str>,
+) -> Result<Option<VariableInitializer>, AllocError> {
+    match value {
+        Some(value) => Ok(Some(VariableInitializer::Expression(expr(alloc, names, value)?))),
+        None => Ok(None),
+    }
+}
+
+// A declaration, behind its word.
+fn dim(alloc: Global, names: &mut NameTable, text: &str) -> Result<Item, AllocError> {
+    let (name, behind) = text.split_once(" As ").unwrap_or((text, "Integer"));
+    let (word, value) = match behind.split_once(" = ") {
+        Some((word, value)) => (word, Some(value)),
+        None => (behind, None),
+    };
+    let mut variables = Items::new(alloc);
+    variables.push(variable(names, name)?)?;
+    let initial = initial(alloc, names, value)?;
+    let mut declarators = Items::new(alloc);
+    declarators.push(Declarator::As(variables, type_name(word), initial))?;
+    Ok(Item::Dim(declarators))
+}
+
+// The one argument, or the two that a comma parts.
+fn arguments(alloc: Global, names: &mut NameTable, text: &str) -> Result<Items<Expr>, AllocError> {
+    let mut arguments = Items::new(alloc);
+    match text.split_once(", ") {
+        Some((first, second)) => {
+            arguments.push(expr(alloc, names, first)?)?;
+            arguments.push(expr(alloc, names, second)?)?;
+        }
+        None => arguments.push(expr(alloc, names, text)?)?,
+    }
+    Ok(arguments)
+}
+
+// A call of the console's method of this name.
+fn call(
+    alloc: Global,
+    names: &mut NameTable,
+    member: &str,
+    text: &str,
+) -> Result<Item, AllocError> {
+    let console = Expr::SimpleName(names.intern("console")?, Items::new(alloc));
+    let object = Boxed::new(alloc, console)?;
+    let member = names.intern(member)?;
+    let callee = Boxed::new(alloc, Expr::MemberAccess(object, member, Items::new(alloc)))?;
+    Ok(Item::Invocation(Expr::Invocation(callee, arguments(alloc, names, text)?)))
+}
+
+fn assign(
+    alloc: Global,
+    names: &mut NameTable,
+    target: &str,
+    value: &str,
+) -> Result<Item, AllocError> {
+    let target = operand(alloc, names, target)?;
+    Ok(Item::Assignment(target, expr(alloc, names, value)?))
+}
+
+// The item of a line: `Write` and `WriteLine` are called with what stands behind.
+fn item(alloc: Global, names: &mut NameTable, line: &str) -> Result<Item, AllocError> {
+    if let Some((target, value)) = line.split_once(" := ") {
+        return assign(alloc, names, target, value);
+    }
+    let (word, behind) = line.split_once(' ').unwrap_or((line, ""));
+    match word {
+        "Imports" => imports(alloc, names.intern(behind)?),
+        "Module" => Ok(Item::Module(names.intern(behind)?)),
+        "Sub" => Ok(Item::Sub(names.intern(behind)?)),
+        "Dim" => dim(alloc, names, behind),
+        "While" => Ok(Item::While(expr(alloc, names, behind)?)),
+        "End" => Ok(block_end(behind)),
+        _ => call(alloc, names, word, behind),
+    }
+}
+
+fn push(
+    alloc: Global,
+    names: &mut NameTable,
+    items: &mut Vec<Item>,
+    lines: &[&str],
+) -> Result<(), AllocError> {
+    for line in lines {
+        items.push(item(alloc, names, line)?)?;
+    }
     Ok(())
 }
 
@@ -96,17 +194,13 @@ fn push_line(
 fn read(alloc: Global, main: &[&str]) -> Result<Result<Program, ReadErr>, Fail> {
     let mut names = NameTable::new(alloc)?;
     let known = KnownNames::new(&mut names)?;
-    let mut lines = Vec::new(alloc);
-    for line in ["Imports SYSTEM", "Module Squares", "Sub Main ( )"] {
-        push_line(alloc, &mut names, &mut lines, line)?;
-    }
-    for line in main {
-        push_line(alloc, &mut names, &mut lines, line)?;
-    }
-    for line in ["End Sub", "End Module"] {
-        push_line(alloc, &mut names, &mut lines, line)?;
-    }
-    Ok(read_program(alloc, &known, &lines))
+    let mut items = Vec::new(alloc);
+    let header = ["Imports SYSTEM", "Module Squares", "Sub Main"];
+    push(alloc, &mut names, &mut items, header.as_slice())?;
+    push(alloc, &mut names, &mut items, main)?;
+    let ends = ["End Sub", "End Module"];
+    push(alloc, &mut names, &mut items, ends.as_slice())?;
+    Ok(read_program(alloc, &known, &items))
 }
 
 fn is_read(alloc: Global, main: &[&str]) -> Result<bool, Fail> {
@@ -119,14 +213,14 @@ fn is_read(alloc: Global, main: &[&str]) -> Result<bool, Fail> {
 
 #[test]
 fn reads_programs(rt: HostRuntime) -> Result<(), Fail> {
-    let cases: [&[&str]; 6] = [
+    let cases: [&[&str]; 4] = [
         &[
             "Dim I As Integer = 1",
             "Dim Square As Integer",
             "While i <= 10",
-            "square = I * i",
-            "Console . WriteLine ( Square )",
-            "i = i + 1",
+            "square := I * i",
+            "WriteLine Square",
+            "i := i + 1",
             "End While",
         ],
         &[],
@@ -135,9 +229,7 @@ fn reads_programs(rt: HostRuntime) -> Result<(), Fail> {
             "While 1 <> Text",
             "End While",
         ],
-        &["Dim [Xor] As Integer", "[xor] = 1"],
-        &["Dim a As Integer = &HFF", "[A] = a + &H1"],
-        &["[console] . [WRITELINE] ( 1 )"],
+        &["WRITELINE 1"],
     ];
     for main in cases {
         assert!(rt; is_read(rt.alloc(), main)?);
@@ -147,25 +239,24 @@ fn reads_programs(rt: HostRuntime) -> Result<(), Fail> {
 
 #[test]
 fn refuses_what_is_no_program(rt: HostRuntime) -> Result<(), Fail> {
-    let cases: [&[&str]; 18] = [
-        &["If 1 = 1 Then"],
+    let cases: [&[&str]; 17] = [
         &["End While"],
-        &["Dim a As Integer", "While a >= 1"],
-        &["Console . WriteLine ( a )"],
+        &["Dim a As Integer", "While a < 1"],
+        &["WriteLine a"],
         &["Dim a As Integer = b", "Dim b As Integer"],
         &["Dim a As Integer", "Dim A As Integer"],
-        &["Dim a As Integer", "Dim [A] As Integer"],
         &["Dim squares As Integer"],
-        &["Dim [main] As Integer"],
-        &["Dim Xor As Integer"],
+        &["Dim main As Integer"],
         &["Dim a As Long"],
-        &["Console . WriteLine ( 1 + 2 )"],
-        &["Console . WriteLine ( 2147483648 )"],
-        &["Console . WriteLine ( &HFFL )"],
-        &["Dim a As Integer : a = 1"],
-        &["Dim a As Integer", "a = 1 :"],
-        &["Dim a As Integer", "1 = a"],
-        &["Dim a As Integer", "a = 1", "Dim b As Integer"],
+        &["Dim a() As Integer"],
+        &["WriteLine 1 + 2"],
+        &["WriteLine 2147483648"],
+        &["WriteLine 255L"],
+        &["WriteLine 1, 1"],
+        &["Write 1"],
+        &["Dim a As Integer", "1 := a"],
+        &["Dim a As Integer", "a := a And 1"],
+        &["Dim a As Integer", "a := 1", "Dim b As Integer"],
     ];
     for main in cases {
         assert!(rt; !is_read(rt.alloc(), main)?);
@@ -175,17 +266,13 @@ fn refuses_what_is_no_program(rt: HostRuntime) -> Result<(), Fail> {
 
 #[test]
 fn binds_names_and_numbers(rt: HostRuntime) -> Result<(), Fail> {
-    let main: [&str; 3] = [
-        "Dim a As Integer = &H10",
-        "Dim [End] As Integer",
-        "[END] = A",
-    ];
+    let main: [&str; 3] = ["Dim a As Integer = 16", "Dim End As Integer", "END := A"];
     match read(rt.alloc(), &main)? {
         Ok(program) => {
             let locals = [Some(Operand::Number(16)), None];
             assert_eq!(rt; program.locals(), locals.as_slice());
             let target = vb_bound::LocalId(1);
-            let value = Expr::One(Operand::Local(vb_bound::LocalId(0)));
+            let value = vb_bound::Expr::One(Operand::Local(vb_bound::LocalId(0)));
             let assigns = vb_bound::Line::Does(Statement::Assign(target, value));
             assert_eq!(rt; program.lines(), [assigns].as_slice());
         }
@@ -205,5 +292,59 @@ fn reads_loops_in_loops(rt: HostRuntime) -> Result<(), Fail> {
         main.push("End While")?;
     }
     assert!(rt; is_read(rt.alloc(), &main)?);
+    Ok(())
+}
+
+// Whether each item is of a form, or none is.
+fn are_forms(known: &KnownNames, items: &[Item], of_a_form: bool) -> bool {
+    for item in items {
+        if has_form(known, item) != of_a_form {
+            return false;
+        }
+    }
+    true
+}
+
+fn all_are(alloc: Global, lines: &[&str], of_a_form: bool) -> Result<bool, AllocError> {
+    let mut names = NameTable::new(alloc)?;
+    let known = KnownNames::new(&mut names)?;
+    let mut items = Vec::new(alloc);
+    push(alloc, &mut names, &mut items, lines)?;
+    Ok(are_forms(&known, &items, of_a_form))
+}
+
+#[test]
+fn tells_forms(rt: HostRuntime) -> Result<(), Fail> {
+    let forms = [
+        "Imports System",
+        "Module Squares",
+        "Sub Main",
+        "Dim a As Integer",
+        "Dim a As Integer = b",
+        "a := 1 + 2",
+        "WriteLine a * b",
+        "While a < 1",
+        "End While",
+    ];
+    assert!(rt; all_are(rt.alloc(), forms.as_slice(), true)?);
+    Ok(())
+}
+
+#[test]
+fn tells_other_forms(rt: HostRuntime) -> Result<(), Fail> {
+    let others = [
+        "Imports Squares",
+        "Sub Squares",
+        "Dim a As Integer = a + 1",
+        "Dim a As Long",
+        "Dim a() As Integer",
+        "a := 1 < 2",
+        "1 := a",
+        "WriteLine 2147483648",
+        "WriteLine a, b",
+        "Write a",
+        "While a",
+    ];
+    assert!(rt; all_are(rt.alloc(), others.as_slice(), false)?);
     Ok(())
 }

@@ -11,14 +11,18 @@ use Rattle.vb_value.specs.declared.stop.Stop.TheVariants.{Ended, Uncaught, HeapL
 use Rattle.vb_value.specs.declared.stop.Status.{Status}
 use Rattle.vb_value.specs.declared.stop.Status.TheVariants.{Write}
 use Rattle.vb_bound.specs.Tree.{Tree}
-use Rattle.vb_bind.specs.Grammar.{widest}
-use Rattle.vb_bind.proofs.Widest.{is_wide}
 use Rattle.vb_top.specs.declared.outcome.Answer.{Answer}
 use Rattle.vb_top.specs.declared.outcome.Answer.TheVariants.{Usage, Missing, TooLong, LoadFault, Refused, Memory, Stopped}
 use Rattle.vb_top.specs.declared.outcome.Report.{Report}
 use Rattle.vb_lexer.proofs.Unique.{never_both}
 use Rattle.vb_top.specs.Words.{file_of_words}
-use Rattle.vb_top.specs.Programs.{IsProgram, LeastBroken}
+use Rattle.vb_syntax.specs.declared.item.Item.{Item}
+use Rattle.vb_syntax.specs.declared.tokens.Line.{Line}
+use Rattle.vb_bind.specs.declared.names.KnownNames.{KnownNames}
+use Rattle.vb_bind.specs.Grammar.{IsProgramOf, widest}
+use Rattle.vb_top.specs.Programs.{AreItems, HaveForms, IsFirstUnbuilt, IsProgram, LeastBroken}
+use Rattle.vb_top.proofs.Forms.{program_forms, none_unbuilt}
+use Rattle.vb_top.proofs.Compiled.{same_lines, is_wide}
 use Rattle.vb_top.specs.Answers.{Tells, line_of, status_of}
 use Rattle.vb_top.specs.Reports.{RanProgram}
 use Rattle.vb_top.specs.Headline.{longest_file, Call, MayBe, IsLoaded, MayBeHad, Judged, IsReported, TellsRun, Built, Works, IsProper, Headline, Complete, call_of}
@@ -40,8 +44,13 @@ refused_built bytes input old before said line rule report name broken (inr e) k
 
 -- a program breaks no rule
 sound_program : (bytes : List ℕ) (t : Tree) (line rule : ℕ) → IsProgram bytes t → LeastBroken bytes line rule → ⊥
-sound_program bytes t line rule p (inl breaks) = never_both p.names 0 bytes p.lines line rule p.lexed.lexed breaks
-sound_program bytes t line rule p (inr none) = none.1 t p
+sound_program bytes t line rule p (inl breaks) = never_both p.read.names 0 bytes p.read.lines line rule p.read.lexed.lexed breaks
+sound_program bytes t line rule p (inr (read, is, inl first)) =
+    let same = same_lines bytes p.read read in
+    let are : AreItems read.lines p.items = subst (λ (ls : List Line). AreItems ls p.items) same.0 p.are_items in
+    let program : IsProgramOf read.known p.items t = subst (λ (k : KnownNames). IsProgramOf k p.items t) same.1 p.program in
+    none_unbuilt read.known read.lines p.items line are (program_forms read.known p.items t program) first
+sound_program bytes t line rule p (inr (read, is, inr none)) = none.1 t p
 
 pub works_of : (words : List (List ℕ)) (told : Option Files) (file bytes : List ℕ) (fb fn : ℕ) (input : List ℕ) (old new : Option (List ℕ)) (b n : ℕ) (said : Answer) (report : Option Report) (name : List ℕ) → IsLoaded words told file bytes → Built bytes input old new b n said report name → Works words told file fb fn input old new b n said report name
 works_of words told file bytes fb fn input old new b n (Refused line rule) None name is h = record { judged = (bytes, is); reported = refl; named = tt; least = (bytes, is, h.0); ran = h.1 }
@@ -171,7 +180,7 @@ module _ (words : List (List ℕ)) (told : Option Files) (file : List ℕ) (fb f
           console_lines = x.shows;
           stop_stands = x.stands;
           code_did_it = (x.did, subst (λ i. MayBe input_after i) (sym x.did.input_left) left);
-          numbers = x.counted (widest ran.3.lines) (is_wide ran.3.known ran.3.lines ran.1 ran.3.program);
+          numbers = x.counted (widest ran.3.read.lines) (is_wide ran.0 ran.1 ran.3);
           schedule = x.mains;
           cut_short = record { read = read_rose (Some r) works; write = λ e. x.faulted (subst (λ a. IsReported a (Some r)) e works.reported); told = nine said (line_of said file name) status eo en eb ef tells; later = (folder_later, out_later, err_later) };
           complete = completes (Some r) works;

@@ -14,12 +14,12 @@ use Rattle.vb_code.specs.Code.{class_name}
 use Rattle.vb_code.specs.Machine.{CodeThread}
 use Rattle.vb_bound.specs.Tree.{Tree}
 use Rattle.vb_meaning.specs.Source.{SourceThread}
-use Rattle.vb_bind.specs.Grammar.{widest}
 use Rattle.vb_turns.specs.Ran.{AreMains}
 use Rattle.vb_top.specs.declared.outcome.Answer.{Answer}
 use Rattle.vb_top.specs.declared.outcome.Answer.TheVariants.{Usage, Missing, TooLong, LoadFault, Refused, Memory, Stopped}
 use Rattle.vb_top.specs.declared.outcome.Report.{Report}
 use Rattle.vb_top.specs.Words.{file_of_words}
+use Rattle.vb_bind.specs.Grammar.{widest}
 use Rattle.vb_top.specs.Programs.{IsProgram, LeastBroken}
 use Rattle.vb_top.specs.Answers.{status_of, line_of, Tells}
 use Rattle.vb_top.specs.Reports.{ShowsRun, StopStandsIn, CodeRan, Counts, AsksWriting, RanProgram}
@@ -182,7 +182,7 @@ CodeDidIt call file (Some r) runs = CodeRan call.input r runs.source runs.machin
 
 abbrev pub Numbers : (call : Call) (file : List ℕ) (report : Option Report) → RunsOf call file report → Type 0
 Numbers call file None runs = Unit {0}
-Numbers call file (Some r) runs = Counts r (widest runs.program.lines) runs.source
+Numbers call file (Some r) runs = Counts r (widest runs.program.read.lines) runs.source
 
 -- SCHEDULE
 

@@ -1,33 +1,66 @@
 -- Which bytes are a program, and which rule they break.
-use Rattle.std.specs.Prelude.{◌≡◌, ◌⊎◌, ℕ, List, []}
+use Rattle.std.specs.Prelude.{◌≡◌, ◌⊎◌, ℕ, List, [], ◌∷◌}
 use Rattle.vb_text.specs.Names.{AreApart}
+use Rattle.vb_syntax.specs.declared.tokens.Token.{Token}
 use Rattle.vb_syntax.specs.declared.tokens.Line.{Line}
-use Rattle.vb_lexer.specs.Lines.{Lexed, LexedFrom, Breaks}
+use Rattle.vb_syntax.specs.declared.item.Item.{Item}
+use Rattle.vb_lexer.specs.Lines.{LexedFrom, Breaks}
+use Rattle.vb_parse_stmt.specs.Items.{IsItem}
 use Rattle.vb_bound.specs.Tree.{Tree}
 use Rattle.vb_bind.specs.declared.names.KnownNames.{KnownNames}
-use Rattle.vb_bind.specs.Grammar.{AreKnown, with_known, IsProgramOf}
+use Rattle.vb_bind.specs.Grammar.{AreKnown, with_known, IsProgramOf, IsForm}
 
--- The bytes are the file of a program: its logical lines are those of a module whose Main has these locals and this body. The
--- names are those that the grammar uses, and then those of the text, in their order.
-pub record IsProgram (bytes : List ℕ) (t : Tree) : Type 0 where
+-- ITEMS
+
+-- each line is an item
+abbrev pub AreItems : List Line → List Item → Type 0
+AreItems [] [] = Unit {0}
+AreItems (l ∷ ls) (x ∷ xs) = IsItem l.tokens x × AreItems ls xs
+AreItems ls xs = ⊥
+
+-- each is of a form that is built
+abbrev pub HaveForms : KnownNames → List Item → Type 0
+HaveForms known [] = Unit {0}
+HaveForms known (x ∷ xs) = IsForm known x × HaveForms known xs
+
+-- the tokens are an item of a form that is built
+abbrev pub HasBuiltForm : KnownNames → List Token → Type 0
+HasBuiltForm known ts = (x : Item) × IsItem ts x × IsForm known x
+
+-- the first line that is of no built form has this number
+abbrev pub IsFirstUnbuilt : KnownNames → List Line → ℕ → Type 0
+IsFirstUnbuilt known [] n = ⊥
+IsFirstUnbuilt known (l ∷ ls) n = (HasBuiltForm known l.tokens × IsFirstUnbuilt known ls n) ⊎ ((HasBuiltForm known l.tokens → ⊥) × (n ≡ l.number))
+
+-- PROGRAMS
+
+-- The bytes have logical lines: they break no lexical rule. The names are those that the grammar uses, and then those of the
+-- text, in their order.
+pub record HasLines (bytes : List ℕ) : Type 0 where
   pub names : List (List ℕ)
   pub lines : List Line
   pub known : KnownNames
   pub lexed : LexedFrom (with_known []) names 0 bytes lines
   pub apart : AreApart names
   pub are_known : AreKnown names known
-  pub program : IsProgramOf known lines t
+
+-- The bytes are the file of a program: the items of its logical lines are those of a module whose Main has these locals and
+-- this body.
+pub record IsProgram (bytes : List ℕ) (t : Tree) : Type 0 where
+  pub read : HasLines bytes
+  pub items : List Item
+  pub are_items : AreItems read.lines items
+  pub program : IsProgramOf read.known items t
 
 abbrev pub IsNoProgram : List ℕ → Type 0
 IsNoProgram bytes = (t : Tree) → IsProgram bytes t → ⊥
 
--- The bytes have logical lines: they break no lexical rule.
-pub record HasLines (bytes : List ℕ) : Type 0 where
-  pub names : List (List ℕ)
-  pub lines : List Line
-  pub lexed : Lexed names 0 bytes lines
+-- the rule against forms that aren't built yet, and its line: that of the first line that is of no built form; or, where each
+-- is of one and they are no program, line 1
+abbrev pub BreaksUnbuilt : List ℕ → ℕ → ℕ → Type 0
+BreaksUnbuilt bytes line rule = (read : HasLines bytes) × (rule ≡ 999)
+    × (IsFirstUnbuilt read.known read.lines line ⊎ (((items : List Item) × AreItems read.lines items × HaveForms read.known items) × IsNoProgram bytes × (line ≡ 1)))
 
--- The least rule that the bytes break, and its line: a lexical one; or, where they break none and are no program, the rule
--- against forms that aren't built yet, at line 1.
+-- the least rule that the bytes break, and its line: a lexical one, or else that against forms that aren't built yet
 abbrev pub LeastBroken : List ℕ → ℕ → ℕ → Type 0
-LeastBroken bytes line rule = Breaks bytes line rule ⊎ (HasLines bytes × IsNoProgram bytes × (line ≡ 1) × (rule ≡ 999))
+LeastBroken bytes line rule = Breaks bytes line rule ⊎ BreaksUnbuilt bytes line rule

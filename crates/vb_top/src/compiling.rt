@@ -1,15 +1,22 @@
 // From the bytes of a file to a program.
-ghost use Rattle.std.specs.Prelude.{◌≡◌, ◌≤◌, length, IfOk, Err};
+ghost use Rattle.std.specs.Prelude.{◌≡◌, ◌≤◌, List, length, IfOk, Err};
 ghost use Rattle.vb_diag.specs.declared.refusal.Refusal.{Refusal as OneRefusal};
+ghost use Rattle.vb_syntax.specs.declared.item.Item.{Item as OneItem};
 ghost use Rattle.vb_bound.specs.Tree.{Tree, IsOutlineOf};
-ghost use Rattle.vb_top.specs.Programs.{IsProgram, LeastBroken};
+ghost use Rattle.vb_bind.specs.Grammar.{IsForm};
+ghost use Rattle.vb_parse_stmt.specs.Items.{IsItem};
+ghost use Rattle.vb_top.specs.Programs.{IsProgram, LeastBroken, AreItems, HaveForms, HasBuiltForm, IsFirstUnbuilt};
 ghost use Rattle.vb_top.specs.declared.compiling.CompileErr.TheVariants.{Memory as NoMemory};
 
+use sqlite_items::Items;
 use std::alloc::{AllocError, Global};
-use vb_bind::{KnownNames, ReadErr, read_program};
+use vb_bind::{KnownNames, ReadErr, has_form, read_program};
 use vb_bound::Program;
 use vb_diag::{Refusal, Rule};
 use vb_lexer::{LexErr, lex};
+use vb_parse_expr::ParseErr;
+use vb_parse_stmt::{one_item, parse_stmt};
+use vb_syntax::{Item, Line};
 use vb_text::NameTable;
 
 /// Why there is no program: the least rule that the file breaks, or want of memory.
@@ -27,11 +34,11 @@ impl From<AllocError> for CompileErr {
     }
 }
 
-/// The program of a file's bytes, of which there are at most 4,194,304: their logical lines, and then the small grammar over
-/// those.
+/// The program of a file's bytes, of which there are at most 4,194,304: their logical lines, the items that stand on those, and
+/// then the small grammar over the items.
 ///
-/// `Refused` comes exactly where they break a rule: the least lexical one, or else, where they are no program, the rule
-/// against forms that aren't built yet, at line 1.
+/// `Refused` comes exactly where they break a rule: the least lexical one; or else, where they are no program, the rule
+/// against forms that aren't built yet, at the first line that is of no built form, and at line 1 where each is of one.
 pub fn compile(alloc: Global, bytes: &[u8]) -> Result<Program, CompileErr>
     requires { length bytes.now ≤ 4194304 }
     ensures read { IfOk result (λ p. (t : Tree) × IsProgram bytes.now t × IsOutlineOf p t) }
@@ -45,21 +52,63 @@ pub fn compile(alloc: Global, bytes: &[u8]) -> Result<Program, CompileErr>
         Err(LexErr::Memory) => return Err(CompileErr::Memory),
     };
     names.are_apart();
-    match read_program(alloc, &known, lines.as_slice()) {
+    let items = items_of(alloc, &known, lines.as_slice())?;
+    match read_program(alloc, &known, items.as_slice()) {
         Ok(program) => Ok(program),
-        Err(ReadErr::Refused) => Err(CompileErr::Refused(unbuilt())),
+        Err(ReadErr::Refused) => Err(CompileErr::Refused(unbuilt(0, 1))),
         Err(ReadErr::Memory) => Err(CompileErr::Memory),
     }
 }
 
-// The refusal of a file with a form that isn't built yet.
-fn unbuilt() -> Refusal
+// The items that stand on the lines, one on each.
+fn items_of(alloc: Global, known: &KnownNames, lines: &[Line]) -> Result<Items<Item>, CompileErr>
+    ensures read { IfOk result (λ xs. AreItems lines.now xs × HaveForms known.now xs) }
+    ensures alone { IfOk result (λ xs. (ys : List OneItem) → AreItems lines.now ys → ys ≡ xs) }
+    ensures refused { (refusal : OneRefusal) → result ≡ Err (CompileErr.Refused refusal) → (refusal.rule ≡ 999) × IsFirstUnbuilt known.now lines.now refusal.line }
+{
+    let mut items = Items::new(alloc);
+    for line in lines {
+        let item = item_of(alloc, known, line)?;
+        items.push(item)?;
+    }
+    Ok(items)
+}
+
+// The item that stands on the line, where it is of a built form.
+fn item_of(alloc: Global, known: &KnownNames, line: &Line) -> Result<Item, CompileErr>
+    ensures read { IfOk result (λ x. IsItem line.now.tokens x × IsForm known.now x) }
+    ensures alone { IfOk result (λ x. (y : OneItem) → IsItem line.now.tokens y → y ≡ x) }
+    ensures refused { (refusal : OneRefusal) → result ≡ Err (CompileErr.Refused refusal) → (refusal.rule ≡ 999) × (refusal.line ≡ line.now.number) × (HasBuiltForm known.now line.now.tokens → ⊥) }
+{
+    one_item();
+    let _ = line.tokens.len();
+    match parse_stmt(alloc, line) {
+        Ok(item) => built(known, line, item),
+        Err(ParseErr::Refused(refusal)) => Err(CompileErr::Refused(refusal)),
+        Err(ParseErr::Memory) => Err(CompileErr::Memory),
+    }
+}
+
+// The item itself, where its form is built.
+fn built(known: &KnownNames, line: &Line, item: Item) -> Result<Item, CompileErr>
+    ensures kept { IfOk result (λ x. (x ≡ item) × IsForm known.now x) }
+    ensures refused { (refusal : OneRefusal) → result ≡ Err (CompileErr.Refused refusal) → (refusal.rule ≡ 999) × (refusal.line ≡ line.now.number) × (IsForm known.now item → ⊥) }
+{
+    if has_form(known, &item) {
+        return Ok(item);
+    }
+    drop(item);
+    Err(CompileErr::Refused(unbuilt(line.file, line.number)))
+}
+
+// The refusal of a form that isn't built yet.
+fn unbuilt(file: u32, line: u32) -> Refusal
     ensures rule { result.rule ≡ 999 }
-    ensures line { result.line ≡ 1 }
+    ensures line { result.line ≡ line }
 {
     Refusal {
         rule: Rule::new(999),
-        file: 0,
-        line: 1,
+        file,
+        line,
     }
 }

@@ -50,7 +50,7 @@ fn call(
 const RUN: &[&str] = &["run", "main.vb"];
 
 // Bodies of Main: what is written, what is told, the status.
-const BODIES: [(&str, &str, &str, u8); 15] = [
+const BODIES: [(&str, &str, &str, u8); 17] = [
     (
         "Dim i As Integer = 0;While i < 3;i = i + 1;Console.WriteLine(i * i);End While",
         "1\n4\n9\n",
@@ -66,7 +66,7 @@ const BODIES: [(&str, &str, &str, u8); 15] = [
     (
         "If 1 = 1 Then",
         "",
-        "main.vb(1): error V999: the form isn't built yet\n",
+        "main.vb(4): error V999: the form isn't built yet\n",
         1,
     ),
     (
@@ -133,6 +133,18 @@ const BODIES: [(&str, &str, &str, u8); 15] = [
     (
         "Console.WriteLine(1) : Console.WriteLine(2)",
         "",
+        "main.vb(4): error V999: the form isn't built yet\n",
+        1,
+    ),
+    (
+        "Dim i As Integer;i = 1 + 2 * i",
+        "",
+        "main.vb(5): error V999: the form isn't built yet\n",
+        1,
+    ),
+    (
+        "Dim i As Integer;j = 1",
+        "",
         "main.vb(1): error V999: the form isn't built yet\n",
         1,
     ),
@@ -150,8 +162,8 @@ fn bodies_run(rt: HostRuntime) -> Result<(), Fail> {
     Ok(())
 }
 
-// Files that break a lexical rule, and what is told.
-const BROKEN: [(&[u8], &str); 5] = [
+// Files that break a lexical rule or have forms that aren't built, and what is told.
+const BROKEN: [(&[u8], &str); 7] = [
     (
         b"\xffImports System",
         "main.vb(1): error V001: the file isn't UTF-8\n",
@@ -169,6 +181,14 @@ const BROKEN: [(&[u8], &str); 5] = [
         "main.vb(2): error V003: a string or character literal is malformed\n",
     ),
     (b"", "main.vb(1): error V999: the form isn't built yet\n"),
+    (
+        b"\nImports System\nModule M\nClass C\nx y",
+        "main.vb(4): error V999: the form isn't built yet\n",
+    ),
+    (
+        b"\nImports System\nModule M\nSub Main()",
+        "main.vb(1): error V999: the form isn't built yet\n",
+    ),
 ];
 
 #[test]

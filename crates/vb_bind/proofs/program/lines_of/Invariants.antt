@@ -1,12 +1,11 @@
-use Rattle.std.proofs.Common.{◌≡◌, ◌+◌, ◌≤◌, [], length, map, Some}
+use Rattle.std.proofs.Common.{◌≡◌, ◌+◌, ◌≤◌, [], length, Some}
 use Rattle.vb_bound.specs.Tree.{AreLines}
-use Rattle.vb_bind.specs.Grammar.{unescaped}
 use Rattle.vb_bind.specs.Parsing.{lines_read, depth_after}
 use Rattle.vb_bind.proofs.program.lines_of.Given as goal
 
 abbrev pub invariant-loop-first : goal.invariant-loop-first
 invariant-loop-first l = record {
-  read : lines_read l.known l.names l.locals.items l.lines.items l.depth (map (λ x. map unescaped x.tokens) l.rest) ≡ lines_read l.known l.names l.locals.items [] 0 (map (λ x. map unescaped x.tokens) l.body);
+  read : lines_read l.known l.names l.locals.items l.lines.items l.depth l.rest ≡ lines_read l.known l.names l.locals.items [] 0 l.body;
   bound : AreLines (length l.names) l.lines.items;
   counted : depth_after 0 l.lines.items ≡ Some l.depth;
   room : l.depth + length l.rest ≤ length l.body;

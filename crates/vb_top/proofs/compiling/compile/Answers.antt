@@ -1,27 +1,51 @@
-use Rattle.std.proofs.Common.{◌≡◌, List, [], ap, sym, subst, ◌∙◌, inr}
+use Rattle.std.proofs.Common.{◌≡◌, List, [], ap, sym, subst, ◌∙◌, inl, inr, rules}
 use Rattle.std.specs.Prelude.{Err}
 use Rattle.vb_diag.specs.declared.refusal.Refusal.{Refusal}
 use Rattle.vb_syntax.specs.declared.tokens.Line.{Line}
+use Rattle.vb_syntax.specs.declared.item.Item.{Item}
 use Rattle.vb_lexer.specs.Lines.{LexedFrom}
 use Rattle.vb_bind.specs.Grammar.{with_known, IsProgramOf}
 use Rattle.vb_bind.specs.declared.program.ReadErr.{ReadErr}
-use Rattle.vb_top.specs.Programs.{LeastBroken}
+use Rattle.vb_top.specs.declared.compiling.CompileErr.{CompileErr}
+use Rattle.vb_top.specs.declared.compiling.CompileErr.TheVariants.{Refused}
+use Rattle.vb_top.specs.Programs.{HasLines, AreItems, HaveForms, IsFirstUnbuilt, LeastBroken}
 use Rattle.vb_top.proofs.Compiled.{known_stay, no_other}
 use Rattle.vb_top.proofs.compiling.compile.Goals as goal
+
+pub returns-in_err-items-clause-refused : goal.returns-in_err-items-clause-refused
+returns-in_err-items-clause-refused c = λ refusal e.
+    let start : c.new-2.new.names ≡ with_known [] = c.in_ok-known.ensures.grown ∙ ap (λ t. with_known t) c.in_ok-names.ensures in
+    let read : HasLines c.args.bytes.now = record {
+      names = c.lex.new.names;
+      lines = c.in-Ok.lines;
+      known = c.in_ok-known.known;
+      lexed = subst (λ s. LexedFrom s c.lex.new.names 0 c.args.bytes.now c.in-Ok.lines) start c.in-Ok.ensures.lexed;
+      apart = c.are_apart.ensures;
+      are_known = known_stay c.new-2.new.names c.lex.new.names c.in_ok-known.known c.in_ok-known.ensures.known c.lex.ensures.names;
+    } in
+    let same : c.from_residual-in_err-items.result ≡ Err c.in_err-items.field-0.0 = search (rules, c.from_residual-in_err-items.ensures) in
+    let is : c.in_err-items.field-0.0 ≡ Refused refusal = let k = sym same ∙ e in cc in
+    let told = c.in_err-items.ensures.refused refusal (ap (λ (r : CompileErr). Err r) is) in
+    inr (read, told.0, inl (subst (λ (ls : List Line). IsFirstUnbuilt c.in_ok-known.known ls refusal.line) c.as_slice.ensures told.1))
 
 pub returns-in-Ok-read_program-clause-read : goal.returns-in-Ok-read_program-clause-read
 returns-in-Ok-read_program-clause-read c =
     let r = c.in-Ok-read_program.ensures.read in
-    let start : c.new-2.new.names ≡ with_known [] = c.in_ok-known.ensures.grown ∙ ap (λ t. with_known t) c.in_ok-names.ensures in (
+    let start : c.new-2.new.names ≡ with_known [] = c.in_ok-known.ensures.grown ∙ ap (λ t. with_known t) c.in_ok-names.ensures in
+    let read : HasLines c.args.bytes.now = record {
+      names = c.lex.new.names;
+      lines = c.in-Ok.lines;
+      known = c.in_ok-known.known;
+      lexed = subst (λ s. LexedFrom s c.lex.new.names 0 c.args.bytes.now c.in-Ok.lines) start c.in-Ok.ensures.lexed;
+      apart = c.are_apart.ensures;
+      are_known = known_stay c.new-2.new.names c.lex.new.names c.in_ok-known.known c.in_ok-known.ensures.known c.lex.ensures.names;
+    } in (
       r.0,
       record {
-        names = c.lex.new.names;
-        lines = c.in-Ok.lines;
-        known = c.in_ok-known.known;
-        lexed = subst (λ e. LexedFrom e c.lex.new.names 0 c.args.bytes.now c.in-Ok.lines) start c.in-Ok.ensures.lexed;
-        apart = c.are_apart.ensures;
-        are_known = known_stay c.new-2.new.names c.lex.new.names c.in_ok-known.known c.in_ok-known.ensures.known c.lex.ensures.names;
-        program = subst (λ (ls : List Line). IsProgramOf c.in_ok-known.known ls r.0) c.as_slice.ensures r.1;
+        read = read;
+        items = c.in_ok-items.items;
+        are_items = subst (λ (ls : List Line). AreItems ls c.in_ok-items.items) c.as_slice.ensures c.in_ok-items.ensures.read.0;
+        program = subst (λ (xs : List Item). IsProgramOf c.in_ok-known.known xs r.0) c.as_slice-2.ensures r.1;
       },
       r.2,
     )
@@ -29,15 +53,26 @@ returns-in-Ok-read_program-clause-read c =
 pub returns-in-Err-Refused-read_program-clause-refused : goal.returns-in-Err-Refused-read_program-clause-refused
 returns-in-Err-Refused-read_program-clause-refused c = λ refusal e.
     let start : c.new-2.new.names ≡ with_known [] = c.in_ok-known.ensures.grown ∙ ap (λ t. with_known t) c.in_ok-names.ensures in
-    let lexed : LexedFrom (with_known []) c.lex.new.names 0 c.args.bytes.now c.in-Ok.lines = subst (λ s. LexedFrom s c.lex.new.names 0 c.args.bytes.now c.in-Ok.lines) start c.in-Ok.ensures.lexed in
-    let are = known_stay c.new-2.new.names c.lex.new.names c.in_ok-known.known c.in_ok-known.ensures.known c.lex.ensures.names in
+    let read : HasLines c.args.bytes.now = record {
+      names = c.lex.new.names;
+      lines = c.in-Ok.lines;
+      known = c.in_ok-known.known;
+      lexed = subst (λ s. LexedFrom s c.lex.new.names 0 c.args.bytes.now c.in-Ok.lines) start c.in-Ok.ensures.lexed;
+      apart = c.are_apart.ensures;
+      are_known = known_stay c.new-2.new.names c.lex.new.names c.in_ok-known.known c.in_ok-known.ensures.known c.lex.ensures.names;
+    } in
+    let items = c.in_ok-items.items in
     let none = c.in-Err-Refused-read_program.ensures.refused (ap (λ (r : ReadErr). Err r) c.in-Err-Refused-read_program.field-0-is) in
+    let are : AreItems read.lines items = subst (λ (ls : List Line). AreItems ls items) c.as_slice.ensures c.in_ok-items.ensures.read.0 in
+    let alone : (ys : List Item) → AreItems read.lines ys → ys ≡ items = λ ys a. c.in_ok-items.ensures.alone ys (subst (λ (ls : List Line). AreItems ls ys) (sym c.as_slice.ensures) a) in
     let same : c.unbuilt.result ≡ refusal = cc in
     subst (λ (r : Refusal). LeastBroken c.args.bytes.now r.line r.rule) same
     (inr (
-      record { names = c.lex.new.names; lines = c.in-Ok.lines; lexed = lexed.lexed },
-      no_other c.args.bytes.now c.lex.new.names c.in-Ok.lines c.in_ok-known.known lexed c.are_apart.ensures are
-          (λ t p. none t (subst (λ (ls : List Line). IsProgramOf c.in_ok-known.known ls t) (sym c.as_slice.ensures) p)),
-      c.unbuilt.ensures.line,
+      read,
       c.unbuilt.ensures.rule,
+      inr (
+        (items, are, c.in_ok-items.ensures.read.1),
+        no_other c.args.bytes.now read items alone (λ t p. none t (subst (λ (xs : List Item). IsProgramOf c.in_ok-known.known xs t) (sym c.as_slice-2.ensures) p)),
+        c.unbuilt.ensures.line,
+      ),
     ))
