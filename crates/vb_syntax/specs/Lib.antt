@@ -1,1 +1,2 @@
+pub mod ContextualWords
 pub mod Texts

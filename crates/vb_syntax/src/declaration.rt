@@ -1,7 +1,7 @@
 // Files, types and their members.
 
 use crate::declarator::Declarator;
-use crate::expression::Expr;
+use crate::item::PropertyHeader;
 use crate::statement::Block;
 use crate::types::{TypeName, TypeParameter};
 use sqlite_items::Items;
@@ -192,15 +192,7 @@ pub enum MemberForm {
         body: Option<Block>,
     },
     /// A property, which has no accessors where it is implemented automatically or must be overridden (9.7).
-    Property {
-        kind: PropertyKind,
-        name: Name,
-        modifier: NameModifier,
-        declared: TypeName,
-        initializer: Option<Expr>,
-        implements: Items<ImplementedMember>,
-        accessors: Option<PropertyAccessors>,
-    },
+    Property(PropertyHeader, Option<PropertyAccessors>),
     /// An event whose accessors aren't written (9.4).
     Event {
         name: Name,

@@ -10,6 +10,7 @@ mod statement;
 mod symbol;
 mod tokens;
 mod types;
+mod words;
 
 pub use declaration::{
     Access, ClassBase, ClassModifier, DelegateKind, EventAccessor, EventHandler, FunctionKind,
@@ -22,7 +23,7 @@ pub use declarator::{Declarator, VariableIdentifier, VariableModifier};
 pub use expression::{
     BinaryOperator, CastOperator, Expr, RelationalOperator, UnaryOperator, VariableInitializer,
 };
-pub use item::{BlockWord, Item};
+pub use item::{BlockWord, DeclarationLine, EventAccessorKind, Item, Joint, PropertyHeader, Row};
 pub use keyword::Keyword;
 pub use statement::{
     Block, BlockClause, CaseClause, CaseItem, CatchClause, CatchVariable, CompoundOperator,
@@ -35,6 +36,7 @@ pub use types::{
     BuiltInTypeName, PrimitiveTypeName, QualifiedTypeName, SimpleTypeName, TypeConstraint,
     TypeName, TypeParameter,
 };
+pub use words::{Context, ContextualWords, words_apart};
 
 #[cfg(test)]
 mod tests;
