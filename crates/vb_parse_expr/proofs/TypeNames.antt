@@ -40,7 +40,7 @@ token_at : (t : Token) (ts : List Token) (o : Option Name) (n : Name) (rest : Li
 token_at t ts None n rest was e = cc
 token_at t ts (Some m) n rest was e = let p = parts_of m n ts rest e in (was ∙ ap (λ x. Some x) p.0, p.1)
 
-name_first : (ts : List Token) (n : Name) (rest : List Token) → read_name ts ≡ Some (n, rest)
+pub name_first : (ts : List Token) (n : Name) (rest : List Token) → read_name ts ≡ Some (n, rest)
     → (t : Token) × (ts ≡ t ∷ rest) × (name_of t ≡ Some n)
 unfolding read_name
 name_first [] n rest e = cc
@@ -84,7 +84,7 @@ names_found (suc k) before ts ns rest e =
 
 -- READ
 
-read_named : (t : Token) (n : Name) (us : List Token) → name_of t ≡ Some n → read_name (t ∷ us) ≡ Some (n, us)
+pub read_named : (t : Token) (n : Name) (us : List Token) → name_of t ≡ Some n → read_name (t ∷ us) ≡ Some (n, us)
 unfolding read_name
 read_named t n us e = ap (λ o. name_at us o) e
 

@@ -23,11 +23,12 @@ use Rattle.vb_parse_expr.specs.Expressions.{Spells, SpellsPrimary, SpellsInitial
 use Rattle.vb_parse_expr.specs.Fronts.{IsFront, IsPrimaryFront, IsInitializerFront, Answers, goes_on, goes_on_primary, goes_on_initializer}
 use Rattle.vb_parse_expr.specs.TypeReading.{Read, Gives, and_then, with_array, read_type, read_simple_type, type_step, want_type, most_turns, most_tokens}
 use Rattle.vb_parse_expr.specs.MachineReading.{run, step, want}
-use Rattle.vb_parse_expr.specs.Placing.{Places, expression_at, expression_of}
+use Rattle.vb_parse_expr.specs.Placing.{Places, expression_at, expression_of, read_expression}
 use Rattle.vb_parse_expr.proofs.TypeRuns as types
 use Rattle.vb_parse_expr.proofs.Runs as runs
 use Rattle.vb_parse_expr.proofs.TypeFronts.{FoundType, FoundSimpleType, type_found, simple_type_found}
 use Rattle.vb_parse_expr.proofs.Sound.{FoundPrimary, FoundExpression, FoundInitializer, primary_found, expression_found, initializer_found}
+use Rattle.vb_parse_expr.proofs.Complete.{expression_read}
 use Rattle.vb_parse_expr.proofs.Readings as readings
 
 -- A FRONT AND THE REST, BY A COUNT
@@ -264,3 +265,14 @@ reads_simple_type line from most =
       within = λ x rest e. (place x rest e).below;
       complete = λ x n f. readings.simple_type_at ts x n (tokens_within line from most) f;
     }
+
+-- A READER OF TOKENS
+
+pub expression_reads : (ts rest : List Token) (x : Expr) → read_expression ts ≡ Some (x, rest) → FoundExpression ts x rest
+unfolding read_expression
+expression_reads ts rest x e = found_expression ts rest x e
+
+pub reads_front : {front : List Token} {x : Expr} {h w : ℕ} (rest : List Token) → Spells h w front x → goes_on rest ≡ false → length (front ++ rest) ≤ most_tokens
+    → read_expression (front ++ rest) ≡ Some (x, rest)
+unfolding read_expression
+reads_front rest s over within = ap expression_of (expression_read rest s over within)

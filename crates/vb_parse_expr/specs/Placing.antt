@@ -1,5 +1,5 @@
 -- What the private parts of the public calls return, which the code equals.
-use Rattle.std.specs.Prelude.{◌≡◌, ℕ, ◌-◌, List, length, Some, None, Result, Ok, Err}
+use Rattle.std.specs.Prelude.{◌≡◌, ℕ, ◌-◌, List, [], length, Some, None, Result, Ok, Err}
 use Rattle.vb_syntax.specs.declared.tokens.Token.{Token}
 use Rattle.vb_syntax.specs.declared.tokens.Line.{Line}
 use Rattle.vb_syntax.specs.declared.expression.Expr.{Expr}
@@ -10,7 +10,10 @@ use Rattle.vb_parse_expr.specs.declared.error.ParseErr.TheVariants.{Refused, Mem
 use Rattle.vb_parse_expr.specs.declared.fault.Fault.{Fault}
 use Rattle.vb_parse_expr.specs.declared.fault.Fault.TheVariants as fault
 use Rattle.vb_parse_expr.specs.Fronts.{IsRefusalOf}
-use Rattle.vb_parse_expr.specs.TypeReading.{Read}
+use Rattle.vb_parse_expr.specs.declared.pending.Goal.TheVariants as for
+use Rattle.vb_parse_expr.specs.declared.machine.State.TheVariants as at
+use Rattle.vb_parse_expr.specs.TypeReading.{Read, most_turns}
+use Rattle.vb_parse_expr.specs.MachineReading.{run}
 
 -- the expression that was read, where it wasn't elements in braces
 abbrev pub expression_at : List Token → VariableInitializer → Read Expr
@@ -31,3 +34,7 @@ module _ {X R : Type 0} (view : R → List Token) (line : Line) where
   Places (Err fault.Memory) (Err (Refused r)) = ⊥
   Places (Err fault.Grammar) (Err Memory) = ⊥
   Places (Err fault.Grammar) (Err (Refused r)) = IsRefusalOf line r
+
+-- the expression at the front of tokens, and the tokens behind it
+unfoldable pub read_expression : List Token → Read Expr
+read_expression ts = expression_of (run for.Expression most_turns [] at.Want ts)

@@ -4,6 +4,7 @@ ghost use Rattle.vb_parse_expr.specs.Reading as spec;
 
 use vb_syntax::{Keyword, Symbol, Token};
 
+/// What stands behind `(`, where it comes first.
 #[tactic(auto, unfolding(crate::specs::Reading::after_opening))]
 pub fn after_opening(tokens: &[Token]) -> Option<&[Token]>
     ensures { option_map (λ ts. ts.now) result ≡ spec.after_opening tokens.now }
@@ -14,6 +15,7 @@ pub fn after_opening(tokens: &[Token]) -> Option<&[Token]>
     }
 }
 
+/// What stands behind `)`, where it comes first.
 #[tactic(auto, unfolding(crate::specs::Reading::after_closing))]
 pub fn after_closing(tokens: &[Token]) -> Option<&[Token]>
     ensures { option_map (λ ts. ts.now) result ≡ spec.after_closing tokens.now }
@@ -24,6 +26,7 @@ pub fn after_closing(tokens: &[Token]) -> Option<&[Token]>
     }
 }
 
+/// What stands behind `{`, where it comes first.
 #[tactic(auto, unfolding(crate::specs::Reading::after_opening_brace))]
 pub fn after_opening_brace(tokens: &[Token]) -> Option<&[Token]>
     ensures { option_map (λ ts. ts.now) result ≡ spec.after_opening_brace tokens.now }
@@ -34,6 +37,7 @@ pub fn after_opening_brace(tokens: &[Token]) -> Option<&[Token]>
     }
 }
 
+/// What stands behind `}`, where it comes first.
 #[tactic(auto, unfolding(crate::specs::Reading::after_closing_brace))]
 pub fn after_closing_brace(tokens: &[Token]) -> Option<&[Token]>
     ensures { option_map (λ ts. ts.now) result ≡ spec.after_closing_brace tokens.now }
@@ -44,6 +48,7 @@ pub fn after_closing_brace(tokens: &[Token]) -> Option<&[Token]>
     }
 }
 
+/// What stands behind `,`, where it comes first.
 #[tactic(auto, unfolding(crate::specs::Reading::after_comma))]
 pub fn after_comma(tokens: &[Token]) -> Option<&[Token]>
     ensures { option_map (λ ts. ts.now) result ≡ spec.after_comma tokens.now }
@@ -54,6 +59,7 @@ pub fn after_comma(tokens: &[Token]) -> Option<&[Token]>
     }
 }
 
+/// What stands behind `.`, where it comes first.
 #[tactic(auto, unfolding(crate::specs::Reading::after_dot))]
 pub fn after_dot(tokens: &[Token]) -> Option<&[Token]>
     ensures { option_map (λ ts. ts.now) result ≡ spec.after_dot tokens.now }

@@ -14,11 +14,16 @@ mod pending;
 mod types;
 mod words;
 
+pub use ahead::{
+    after_closing, after_closing_brace, after_comma, after_dot, after_opening, after_opening_brace,
+};
 pub use error::ParseErr;
+pub use fault::Fault;
 pub use parse::{
     one_reading, parse_expr, parse_initializer, parse_primary, parse_simple_type, parse_type,
-    primary_begins, refusal,
+    primary_begins, read_expression, refusal,
 };
+pub use types::{after_opening_of, read_name, read_type};
 
 #[cfg(test)]
 mod tests;

@@ -9,7 +9,7 @@ ghost use Rattle.vb_syntax.specs.declared.expression.VariableInitializer.{Variab
 ghost use Rattle.vb_parse_expr.specs.declared.machine.State.TheVariants as at;
 ghost use Rattle.vb_parse_expr.specs.TypeReading.{Gives, most_tokens, most_turns};
 ghost use Rattle.vb_parse_expr.specs.MachineReading as machine;
-ghost use Rattle.vb_parse_expr.specs.Placing.{Places, expression_of};
+ghost use Rattle.vb_parse_expr.specs.Placing.{Places, expression_of, read_expression as expression_read};
 ghost use Rattle.vb_parse_expr.specs.Fronts.{Answers, IsFront, IsPrimaryFront, IsInitializerFront, IsRefusalOf, begins_primary};
 
 use crate::error::ParseErr;
@@ -33,7 +33,7 @@ pub fn parse_expr(alloc: Global, line: &Line, from: usize) -> Result<(Expr, usiz
     ensures { Answers IsFront line.now from result }
 {
     let tokens = tokens_from(line, from);
-    placed(line, read_expression(alloc, Goal::Expression, tokens))
+    placed(line, read_goal(alloc, Goal::Expression, tokens))
 }
 
 /// The primary at the front from the place `from` on, as the target of an assignment and a call are, and the place behind
@@ -46,7 +46,7 @@ pub fn parse_primary(alloc: Global, line: &Line, from: usize) -> Result<(Expr, u
     ensures { Answers IsPrimaryFront line.now from result }
 {
     let tokens = tokens_from(line, from);
-    placed(line, read_expression(alloc, Goal::Primary, tokens))
+    placed(line, read_goal(alloc, Goal::Primary, tokens))
 }
 
 /// The first value of a variable at the front from the place `from` on, an expression or elements in braces, and the place
@@ -110,8 +110,16 @@ fn tokens_from(line: &Line, from: usize) -> &[Token]
     &tokens[from..]
 }
 
+/// The expression at the front of tokens, and the tokens behind it, for readers of more than an expression.
+#[tactic(auto, unfolding(crate::specs::Placing::read_expression))]
+pub fn read_expression(alloc: Global, tokens: &[Token]) -> Result<(Expr, &[Token]), Fault>
+    ensures { Gives (λ x. (x.0, x.1.now)) result (expression_read tokens.now) }
+{
+    read_goal(alloc, Goal::Expression, tokens)
+}
+
 // An expression, which a reading for no initializer always finds.
-fn read_expression(alloc: Global, goal: Goal, tokens: &[Token]) -> Result<(Expr, &[Token]), Fault>
+fn read_goal(alloc: Global, goal: Goal, tokens: &[Token]) -> Result<(Expr, &[Token]), Fault>
     ensures { Gives (λ x. (x.0, x.1.now)) result (expression_of (machine.run goal most_turns [] at.Want tokens.now)) }
 {
     let (found, rest) = run(alloc, goal, tokens)?;

@@ -32,7 +32,7 @@ pub enum TypeState {
     Done(SimpleTypeName),
 }
 
-/// The name of a type at the front, which may be an array.
+/// The name of a type at the front of tokens, which may be an array, and the tokens behind it, for readers of more than a type.
 #[tactic(auto, unfolding(crate::specs::TypeReading::read_type))]
 pub fn read_type(alloc: Global, tokens: &[Token]) -> Result<(TypeName, &[Token]), Fault>
     ensures { Gives (λ x. (x.0, x.1.now)) result (spec.read_type tokens.now) }
@@ -96,8 +96,9 @@ fn open_name(parts: Items<Name>, alloc: Global) -> OpenName
     }
 }
 
+/// What stands behind `(Of`, where it comes first.
 #[tactic(auto, unfolding(crate::specs::TypeReading::after_opening_of))]
-fn after_opening_of(tokens: &[Token]) -> Option<&[Token]>
+pub fn after_opening_of(tokens: &[Token]) -> Option<&[Token]>
     ensures { option_map (λ ts. ts.now) result ≡ spec.after_opening_of tokens.now }
 {
     let rest = after_opening(tokens)?;
@@ -243,7 +244,7 @@ fn read_names(alloc: Global, tokens: &[Token]) -> Result<(Items<Name>, &[Token])
     Err(Fault::Grammar)
 }
 
-/// A name.
+/// The name at the front of tokens, and the tokens behind it.
 #[tactic(auto, unfolding(crate::specs::TypeReading::read_name))]
 pub fn read_name(tokens: &[Token]) -> Result<(Name, &[Token]), Fault>
     ensures { Gives (λ x. (x.0, x.1.now)) result (spec.read_name tokens.now) }

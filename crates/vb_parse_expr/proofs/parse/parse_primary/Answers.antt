@@ -11,13 +11,13 @@ use Rattle.vb_parse_expr.proofs.parse.parse_primary.Goals as goal
 pub placed-requires : goal.placed-requires
 placed-requires c =
     let reads = reads_primary c.args.line.now.tokens c.args.from c.tokens_from-tokens.ensures.within in
-    let gives = subst (λ ts. Gives (λ p. (p.0, p.1.now)) c.read_expression.result (expression_of (run for.Primary most_turns [] at.Want ts)))
-    c.tokens_from-tokens.ensures.tokens c.read_expression.ensures in
-    rest_within IsPrimaryFront (λ ts. ts.now) c.args.line.now c.args.from _ c.read_expression.result reads gives
+    let gives = subst (λ ts. Gives (λ p. (p.0, p.1.now)) c.read_goal.result (expression_of (run for.Primary most_turns [] at.Want ts)))
+    c.tokens_from-tokens.ensures.tokens c.read_goal.ensures in
+    rest_within IsPrimaryFront (λ ts. ts.now) c.args.line.now c.args.from _ c.read_goal.result reads gives
 
 pub returns : goal.returns
 returns c =
     let reads = reads_primary c.args.line.now.tokens c.args.from c.tokens_from-tokens.ensures.within in
-    let gives = subst (λ ts. Gives (λ p. (p.0, p.1.now)) c.read_expression.result (expression_of (run for.Primary most_turns [] at.Want ts)))
-    c.tokens_from-tokens.ensures.tokens c.read_expression.ensures in
-    answers IsPrimaryFront (λ ts. ts.now) c.args.line.now c.args.from _ c.read_expression.result c.placed.result reads gives c.placed.ensures
+    let gives = subst (λ ts. Gives (λ p. (p.0, p.1.now)) c.read_goal.result (expression_of (run for.Primary most_turns [] at.Want ts)))
+    c.tokens_from-tokens.ensures.tokens c.read_goal.ensures in
+    answers IsPrimaryFront (λ ts. ts.now) c.args.line.now c.args.from _ c.read_goal.result c.placed.result reads gives c.placed.ensures
