@@ -1,0 +1,120 @@
+-- Which tokens spell which line of the declarations of types and members (Visual Basic Language Specification 11.0, 7 and 9).
+use Rattle.std.specs.Prelude.{◌≡◌, ◌⊎◌, List, [], ◌∷◌, ◌++◌, Option, Some, None}
+use Rattle.vb_syntax.specs.declared.keyword.Keyword.{Keyword}
+use Rattle.vb_syntax.specs.declared.keyword.Keyword.TheVariants as word
+use Rattle.vb_syntax.specs.declared.tokens.Token.{Token}
+use Rattle.vb_syntax.specs.declared.tokens.Token.TheVariants as token
+use Rattle.vb_syntax.specs.declared.declaration.Access.{Access}
+use Rattle.vb_syntax.specs.declared.declaration.ClassModifier.{ClassModifier}
+use Rattle.vb_syntax.specs.declared.declaration.ClassModifier.TheVariants as class_modifier
+use Rattle.vb_syntax.specs.declared.declaration.DelegateKind.{DelegateKind}
+use Rattle.vb_syntax.specs.declared.declaration.DelegateKind.TheVariants as delegate
+use Rattle.vb_syntax.specs.declared.declaration.FunctionKind.{FunctionKind}
+use Rattle.vb_syntax.specs.declared.declaration.FunctionKind.TheVariants as function
+use Rattle.vb_syntax.specs.declared.declaration.Modifier.{Modifier}
+use Rattle.vb_syntax.specs.declared.declaration.Modifier.TheVariants as modifier
+use Rattle.vb_syntax.specs.declared.declaration.PropertyKind.{PropertyKind}
+use Rattle.vb_syntax.specs.declared.declaration.PropertyKind.TheVariants as property
+use Rattle.vb_syntax.specs.declared.item.DeclarationLine.{DeclarationLine}
+use Rattle.vb_syntax.specs.declared.item.DeclarationLine.TheVariants as line
+use Rattle.vb_syntax.specs.declared.item.EventAccessorKind.{EventAccessorKind}
+use Rattle.vb_syntax.specs.declared.item.EventAccessorKind.TheVariants as accessor
+use Rattle.vb_syntax.specs.declared.item.PropertyHeader.{PropertyHeader}
+use Rattle.vb_syntax.specs.declared.words.ContextualWords.{ContextualWords}
+use Rattle.vb_parse_decl.specs.Parts.{reserved, IsType, IsNamed, After, Begins, Names, Words, Part, AreListed}
+use Rattle.vb_parse_decl.specs.Declarators.{IsDeclarator}
+use Rattle.vb_parse_decl.specs.Declarations.{Modified, IsDeclared, AreTypeParameters, IsNameModifier, AreWritten, AreParameters, Signed, IsResult, IsHandler, IsInitial, AreImplemented}
+
+-- THE MODIFIERS OF A LINE
+
+abbrev pub access_modifiers : Option Access → List Modifier
+access_modifiers None = []
+access_modifiers (Some a) = modifier.Access a ∷ []
+
+-- the `ReadOnly` of a property is the last before it
+abbrev pub property_modifiers : List Modifier → PropertyKind → List Modifier
+property_modifiers ms property.ReadOnly = ms ++ modifier.ReadOnly ∷ []
+property_modifiers ms k = ms
+
+abbrev pub EndsReadOnly : List Modifier → Type 0
+EndsReadOnly ms = (ns : List Modifier) × (ms ≡ ns ++ modifier.ReadOnly ∷ [])
+
+-- types and the accessors of properties have an access alone, and some lines have none
+abbrev pub modifiers_of : DeclarationLine → List Modifier
+modifiers_of (line.Module a n) = access_modifiers a
+modifiers_of (line.Class a m n ps) = access_modifiers a
+modifiers_of (line.Interface a n ps) = access_modifiers a
+modifiers_of (line.Delegate a k n ts ps r) = access_modifiers a
+modifiers_of (line.Inherits bases) = []
+modifiers_of (line.Implements bases) = []
+modifiers_of (line.Variables ms ds) = ms
+modifiers_of (line.Constants ms ds) = ms
+modifiers_of (line.Sub ms s is) = ms
+modifiers_of (line.Constructor ms ps is) = ms
+modifiers_of (line.Function ms k s r is) = ms
+modifiers_of (line.Property ms h) = property_modifiers ms h.kind
+modifiers_of (line.Event ms n h is) = ms
+modifiers_of (line.CustomEvent ms n a) = ms
+modifiers_of (line.Get a) = access_modifiers a
+modifiers_of (line.Set a ps) = access_modifiers a
+modifiers_of (line.EventAccessor k ps) = []
+
+-- WHAT STANDS BEHIND THEM
+
+abbrev pub class_words : Option ClassModifier → List Keyword
+class_words None = word.Class ∷ []
+class_words (Some class_modifier.MustInherit) = word.MustInherit ∷ word.Class ∷ []
+class_words (Some class_modifier.NotInheritable) = word.NotInheritable ∷ word.Class ∷ []
+
+abbrev pub delegate_word : DelegateKind → Keyword
+delegate_word delegate.Sub = word.Sub
+delegate_word delegate.Function = word.Function
+
+abbrev pub property_words : PropertyKind → List Keyword
+property_words property.WriteOnly = word.WriteOnly ∷ word.Property ∷ []
+property_words k = word.Property ∷ []
+
+abbrev pub accessor_word : EventAccessorKind → Keyword
+accessor_word accessor.AddHandler = word.AddHandler
+accessor_word accessor.RemoveHandler = word.RemoveHandler
+accessor_word accessor.RaiseEvent = word.RaiseEvent
+
+-- `Iterator` is a word only here
+abbrev pub IsFunction : ContextualWords → FunctionKind → (List Token → Type 0) → List Token → Type 0
+IsFunction words function.Regular Behind ts = Begins word.Function Behind ts
+IsFunction words function.Iterator Behind ts = After (token.Name words.iterator) (Begins word.Function Behind) ts
+
+-- a name, `()` or nothing, a type, a first value if one is written, and implemented members
+abbrev pub IsProperty : PropertyHeader → List Token → Type 0
+IsProperty h ts = Names h.name (Part IsNameModifier h.modifier (Part IsDeclared h.declared (Part IsInitial h.initializer (λ us. AreImplemented us h.implements)))) ts
+
+abbrev pub Behind : ContextualWords → DeclarationLine → List Token → Type 0
+-- 7.7, 7.5, 7.8 and 7.10
+Behind words (line.Module a n) ts = Begins word.Module (IsNamed n) ts
+Behind words (line.Class a m n ps) ts = Words (class_words m) (Names n (λ us. AreTypeParameters us ps)) ts
+Behind words (line.Interface a n ps) ts = Begins word.Interface (Names n (λ us. AreTypeParameters us ps)) ts
+Behind words (line.Delegate a k n qs ps r) ts = Begins word.Delegate (Begins (delegate_word k) (Signed n qs ps (λ us. IsResult us r))) ts
+-- 7.5.1, 7.8.1 and 7.2
+Behind words (line.Inherits bases) ts = Begins word.Inherits (λ us. AreListed IsType us bases) ts
+Behind words (line.Implements bases) ts = Begins word.Implements (λ us. AreListed IsType us bases) ts
+-- 9.6 and 9.5
+Behind words (line.Variables ms ds) ts = (ms ≡ [] → ⊥) × (AreListed IsDeclarator ts ds ⊎ Begins word.Dim (λ us. AreListed IsDeclarator us ds) ts)
+Behind words (line.Constants ms ds) ts = (ms ≡ [] → ⊥) × Begins word.Const (λ us. AreListed IsDeclarator us ds) ts
+-- 9.2.1 and 9.3
+Behind words (line.Sub ms s is) ts = Begins word.Sub (Signed s.name s.type_parameters s.parameters (λ us. AreImplemented us is)) ts
+Behind words (line.Constructor ms ps is) ts = Begins word.Sub (Begins word.New (Part AreParameters ps (λ us. AreImplemented us is))) ts
+Behind words (line.Function ms k s r is) ts =
+    IsFunction words k (Signed s.name s.type_parameters s.parameters (Part IsDeclared r (λ us. AreImplemented us is))) ts
+-- 9.7
+Behind words (line.Property ms h) ts = (h.kind ≡ property.ReadWrite → EndsReadOnly ms → ⊥) × Words (property_words h.kind) (IsProperty h) ts
+-- 9.4 and 9.4.1
+Behind words (line.Event ms n h is) ts = Begins word.Event (Names n (Part IsHandler h (λ us. AreImplemented us is))) ts
+Behind words (line.CustomEvent ms n a) ts = After (token.Name words.custom) (Begins word.Event (Names n (λ us. IsDeclared us a))) ts
+-- 9.7.1, 9.7.2 and 9.4.1
+Behind words (line.Get a) ts = ts ≡ reserved word.Get ∷ []
+Behind words (line.Set a ps) ts = Begins word.Set (λ us. AreParameters us ps) ts
+Behind words (line.EventAccessor k ps) ts = Begins (accessor_word k) (λ us. AreWritten us ps) ts
+
+-- The tokens spell the line.
+abbrev pub IsDeclarationLine : ContextualWords → List Token → DeclarationLine → Type 0
+IsDeclarationLine words ts d = Modified (modifiers_of d) (Behind words d) ts

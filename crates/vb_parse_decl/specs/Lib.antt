@@ -1,0 +1,10 @@
+pub mod Parts
+pub mod Declarators
+pub mod Answers
+pub mod Declarations
+pub mod DeclarationLines
+pub mod DeclaredReading
+pub mod DeclarationReading
+pub mod ModifierReading
+pub mod MemberReading
+pub mod LineReading
