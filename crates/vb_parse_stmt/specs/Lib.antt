@@ -1,2 +1,9 @@
+pub mod Statements
 pub mod Items
 pub mod Reading
+pub mod FileReading
+pub mod SimpleLines
+pub mod JumpLines
+pub mod BlockParts
+pub mod CaseReading
+pub mod NamespaceReading

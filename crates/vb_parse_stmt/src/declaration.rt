@@ -1,56 +1,53 @@
-// What a `Dim` declares.
-ghost use Rattle.std.specs.Prelude.{◌≤◌, drop, length};
-ghost use Rattle.vb_parse_stmt.specs.Items.{IsDeclarator, Tells};
-ghost use Rattle.vb_parse_stmt.specs.Reading.{IsTypedPair};
+// Local declarations.
+ghost use Rattle.std.specs.Prelude.{◌≡◌};
+ghost use Rattle.vb_parse_decl.specs.Answers.{Tells};
+ghost use Rattle.vb_parse_stmt.specs.declared.front.Front.TheVariants as front;
+ghost use Rattle.vb_parse_stmt.specs.Reading.{front_of, IsItemFrom};
 
-use crate::front::typed_name;
-use crate::parts::{is_equal_at, unbuilt, whole_initializer};
-use sqlite_items::Items;
 use std::alloc::Global;
-use vb_parse_expr::{ParseErr, one_reading, parse_type};
-use vb_syntax::{
-    Declarator, Line, TypeName, VariableIdentifier, VariableInitializer, VariableModifier,
-};
+use vb_parse_decl::{bound, declarators, first_name, rest};
+use vb_parse_expr::{ParseErr, one_reading, refusal};
+use vb_syntax::{Context, Item, Line, LocalModifier};
 
-// The declarator that all tokens behind the first are.
-pub fn declarator(alloc: Global, line: &Line) -> Result<Declarator, ParseErr>
-    ensures { Tells IsDeclarator line.now (drop 1 line.now.tokens) result }
+pub fn dim(alloc: Global, context: &Context, line: &Line) -> Result<Item, ParseErr>
+    requires { front_of context.now line.now.tokens ≡ front.Dim }
+    ensures { Tells (IsItemFrom context.now front.Dim) line.now line.now.tokens result }
 {
-    let Some(name) = typed_name(line) else {
-        return Err(ParseErr::Refused(unbuilt(line)));
-    };
-    let (declared, initial) = typed(alloc, line, 3)?;
-    let mut names = Items::new(alloc);
-    let identifier = VariableIdentifier {
-        name,
-        modifier: VariableModifier::Plain,
-    };
-    names.push(identifier)?;
-    Ok(Declarator::As(names, declared, initial))
+    let found = declarators(alloc, line, 1)?;
+    Ok(Item::Declaration(LocalModifier::Dim, found))
 }
 
-// A type, and a first value if `=` stands behind it.
-fn typed(
-    alloc: Global,
-    line: &Line,
-    from: usize,
-) -> Result<(TypeName, Option<VariableInitializer>), ParseErr>
-    requires { from ≤ length line.now.tokens }
-    ensures { Tells IsTypedPair line.now (drop from line.now.tokens) result }
+pub fn constant(alloc: Global, context: &Context, line: &Line) -> Result<Item, ParseErr>
+    requires { front_of context.now line.now.tokens ≡ front.Const }
+    ensures { Tells (IsItemFrom context.now front.Const) line.now line.now.tokens result }
+{
+    let found = declarators(alloc, line, 1)?;
+    Ok(Item::Declaration(LocalModifier::Const, found))
+}
+
+pub fn static_local(alloc: Global, context: &Context, line: &Line) -> Result<Item, ParseErr>
+    requires { front_of context.now line.now.tokens ≡ front.Static }
+    ensures { Tells (IsItemFrom context.now front.Static) line.now line.now.tokens result }
+{
+    let found = declarators(alloc, line, 1)?;
+    Ok(Item::Declaration(LocalModifier::Static, found))
+}
+
+pub fn redim(alloc: Global, context: &Context, line: &Line) -> Result<Item, ParseErr>
+    requires { front_of context.now line.now.tokens ≡ front.ReDim }
+    ensures { Tells (IsItemFrom context.now front.ReDim) line.now line.now.tokens result }
 {
     one_reading();
-    match parse_type(alloc, line, from) {
-        Ok((declared, behind)) => {
-            if behind == line.tokens.len() {
-                Ok((declared, None))
-            } else if is_equal_at(line, behind) {
-                let initial = whole_initializer(alloc, line, behind + 1)?;
-                Ok((declared, Some(initial)))
-            } else {
-                Err(ParseErr::Refused(unbuilt(line)))
-            }
-        }
-        Err(ParseErr::Memory) => Err(ParseErr::Memory),
-        Err(ParseErr::Refused(_)) => Err(ParseErr::Refused(unbuilt(line))),
+    if line.tokens.len() < 2 {
+        return Err(ParseErr::Refused(refusal(line)));
+    }
+    let Some(name) = first_name(rest(line, 1)) else {
+        return Err(ParseErr::Refused(refusal(line)));
+    };
+    let (found, behind) = bound(alloc, line, 2)?;
+    if behind == line.tokens.len() {
+        Ok(Item::ReDim(name, found))
+    } else {
+        Err(ParseErr::Refused(refusal(line)))
     }
 }

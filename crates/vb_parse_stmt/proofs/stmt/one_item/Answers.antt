@@ -1,11 +1,14 @@
-use Rattle.std.proofs.Common.{◌∙◌, sym}
-use Rattle.vb_parse_stmt.proofs.Firsts.{item_fronts}
-use Rattle.vb_parse_stmt.proofs.Same.{item_same}
+use Rattle.vb_parse_decl.proofs.DeclaredDeclarators.{Readings}
+use Rattle.vb_parse_stmt.proofs.Declares.{all_same}
 use Rattle.vb_parse_stmt.proofs.stmt.one_item.Goals as goal
 
 pub returns : goal.returns
-returns c = λ ts x y few p q.
-    let laws = c.one_reading.ensures in
-    let begins = c.primary_begins.ensures in
-    item_same (record { expressions = laws.expressions; primaries = laws.primaries; initializers = laws.initializers; types = laws.types }) ts x y few
-    (item_fronts begins ts x p ∙ sym (item_fronts begins ts y q)) p q
+returns c = λ w ts x y apart few p q.
+    let laws : Readings = record {
+      begins = c.primary_begins.ensures;
+      expressions = c.one_reading.ensures.expressions;
+      primaries = c.one_reading.ensures.primaries;
+      initializers = c.one_reading.ensures.initializers;
+      types = c.one_reading.ensures.types;
+    } in
+    all_same w ts laws (λ d e p q. c.one_declaration.ensures w.words ts d e few p q) apart few x y p q

@@ -1,0 +1,13 @@
+use Rattle.std.proofs.Common.{rules, ◌≡◌, Err}
+use Rattle.vb_parse_stmt.specs.declared.front.Front.TheVariants as front
+use Rattle.vb_parse_stmt.specs.SimpleLines.{IsTwo}
+use Rattle.vb_parse_stmt.specs.Reading.{IsItemFrom}
+use Rattle.vb_parse_decl.proofs.Refusals.{passed_on}
+use Rattle.vb_parse_stmt.proofs.SimpleForms.{no_add}
+use Rattle.vb_parse_stmt.proofs.simple.add_handler.Goals as goal
+
+pub returns-in_err-event : goal.returns-in_err-event
+returns-in_err-event c =
+    let same : c.from_residual.result ≡ Err c.in_err-event.field-0.0 = search (rules, c.from_residual.ensures) in
+    passed_on IsTwo (IsItemFrom c.args.context.now front.AddHandler) c.args.line.now _ _ c.in_err-event.field-0.0 c.from_residual.result same
+    (λ none. no_add c.args.context.now c.args.line.now.tokens none) c.in_err-event.ensures
