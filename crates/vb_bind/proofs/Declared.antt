@@ -16,6 +16,7 @@ use Rattle.vb_syntax.specs.declared.declarator.VariableModifier.{VariableModifie
 use Rattle.vb_syntax.specs.declared.declarator.VariableModifier.TheVariants as modifier
 use Rattle.vb_syntax.specs.declared.declarator.Declarator.{Declarator}
 use Rattle.vb_syntax.specs.declared.declarator.Declarator.TheVariants as declarator
+use Rattle.vb_syntax.specs.declared.statement.LocalModifier.TheVariants as local
 use Rattle.vb_syntax.specs.declared.item.Item.{Item}
 use Rattle.vb_syntax.specs.declared.item.Item.TheVariants as item
 use Rattle.vb_bound.specs.declared.tree.LocalId.{LocalId}
@@ -124,13 +125,13 @@ declarator_sound known names more (declarator.As vs t i) s d e =
     )
 declarator_sound known names more a s d e = absurd cc
 
-declared_sound : (known : KnownNames) (names more : List Name) (all : List Declarator) (s : Name) (d : Option Operand) → declared_read known names all ≡ Some (s, d) → (item.Dim all ≡ dim_item (names ++ more) s d) × IsName known s × IsFitInitial d
+declared_sound : (known : KnownNames) (names more : List Name) (all : List Declarator) (s : Name) (d : Option Operand) → declared_read known names all ≡ Some (s, d) → (item.Declaration local.Dim all ≡ dim_item (names ++ more) s d) × IsName known s × IsFitInitial d
 declared_sound known names more [] s d e = absurd cc
-declared_sound known names more (a ∷ []) s d e = let one = declarator_sound known names more a s d e in (ap (λ x. item.Dim (x ∷ [])) one.0, one.1, one.2)
+declared_sound known names more (a ∷ []) s d e = let one = declarator_sound known names more a s d e in (ap (λ x. item.Declaration local.Dim (x ∷ [])) one.0, one.1, one.2)
 declared_sound known names more (a ∷ b ∷ more_of) s d e = absurd cc
 
 pub dim_sound : (known : KnownNames) (names more : List Name) (i : Item) (s : Name) (d : Option Operand) → dim_read known names i ≡ Some (s, d) → (i ≡ dim_item (names ++ more) s d) × IsName known s × IsFitInitial d
-dim_sound known names more (item.Dim all) s d e = declared_sound known names more all s d e
+dim_sound known names more (item.Declaration local.Dim all) s d e = declared_sound known names more all s d e
 dim_sound known names more i s d e = absurd cc
 
 pub dim_made : (known : KnownNames) (names more : List Name) (s : Name) (i : Option Operand) → AreDistinctNames known names → IsName known s → IsInitialOf (length names) i → IsFitInitial i → dim_read known names (dim_item (names ++ more) s i) ≡ Some (s, i)

@@ -2,6 +2,11 @@
 use Rattle.std.proofs.Common.{◌≡◌, Bool, true, List, [], ◌∷◌, ◌++◌, map, length, Option, Some, None, sym, ap, subst, ◌∙◌}
 use Rattle.std.specs.Prelude.{◌&&◌, if◌then◌else◌, Result, Ok, Err, IfOk}
 use Rattle.vb_text.specs.declared.names.Name.{Name}
+use Rattle.vb_syntax.specs.declared.types.TypeParameter.{TypeParameter}
+use Rattle.vb_syntax.specs.declared.declaration.MethodSignature.{MethodSignature}
+use Rattle.vb_syntax.specs.declared.declaration.Parameter.{Parameter}
+use Rattle.vb_syntax.specs.declared.item.DeclarationLine.{DeclarationLine}
+use Rattle.vb_syntax.specs.declared.item.DeclarationLine.TheVariants as header
 use Rattle.vb_syntax.specs.declared.item.Item.{Item}
 use Rattle.vb_syntax.specs.declared.item.Item.TheVariants as item
 use Rattle.vb_bound.specs.declared.tree.Operand.{Operand}
@@ -10,8 +15,8 @@ use Rattle.vb_bind.specs.declared.names.KnownNames.{KnownNames}
 use Rattle.vb_bind.specs.declared.program.ReadErr.{ReadErr}
 use Rattle.vb_bind.specs.declared.program.ReadErr.TheVariants.{Refused, Memory}
 use Rattle.vb_bind.specs.Reading.{Reads}
-use Rattle.vb_bind.specs.Grammar.{line_item, dim_items, file_items, IsIn, IsName, AreDistinctNames, AreMixedLines, AreFitLines, AreFitInitials, IsProgramOf}
-use Rattle.vb_bind.specs.Parsing.{and_then, dims_read, is_system, is_imports, module_read, is_sub, file_read}
+use Rattle.vb_bind.specs.Grammar.{line_item, module_item, sub_item, dim_items, file_items, IsIn, IsName, AreDistinctNames, AreMixedLines, AreFitLines, AreFitInitials, IsProgramOf}
+use Rattle.vb_bind.specs.Parsing.{and_then, dims_read, is_system, is_imports, module_named, module_read, is_nothing, same_name, is_main, is_sub, file_read}
 use Rattle.vb_bind.proofs.Trees.{then_is, if_is, and_is, same_is, same_self}
 use Rattle.vb_bind.proofs.Bodies.{end_items}
 use Rattle.vb_bind.proofs.Declared.{name_sound, name_made, distinct_of, dims_sound, dims_made}
@@ -25,12 +30,27 @@ imports_sound : (known : KnownNames) (i : Item) → is_imports known i ≡ true 
 imports_sound known (item.Imports ns) e = ap (λ x. item.Imports x) (system_sound known ns e)
 imports_sound known i e = absurd cc
 
-sub_sound : (known : KnownNames) (i : Item) → is_sub known i ≡ true → i ≡ item.Sub known.main
-sub_sound known (item.Sub n) e = ap (λ x. item.Sub x) (same_is n known.main e)
+abbrev signature_of : Name → List TypeParameter → List Parameter → MethodSignature
+signature_of n ts ps = record { name = n; type_parameters = ts; parameters = ps }
+
+signature_sound : (known : KnownNames) (n : Name) (ts : List TypeParameter) (ps : List Parameter) → (is_nothing ts && (is_nothing ps && same_name n known.main)) ≡ true → signature_of n ts ps ≡ signature_of known.main [] []
+signature_sound known n [] [] e = ap (λ x. signature_of x [] []) (same_is n known.main e)
+signature_sound known n ts ps e = absurd cc
+
+main_sound : (known : KnownNames) (d : DeclarationLine) → is_main known d ≡ true → item.Declares d ≡ sub_item known.main
+main_sound known (header.Sub [] s []) e = ap (λ (x : MethodSignature). item.Declares (header.Sub [] x [])) (signature_sound known s.name s.type_parameters s.parameters e)
+main_sound known d e = absurd cc
+
+pub sub_sound : (known : KnownNames) (i : Item) → is_sub known i ≡ true → i ≡ sub_item known.main
+sub_sound known (item.Declares d) e = main_sound known d e
 sub_sound known i e = absurd cc
 
-module_sound : (known : KnownNames) (i : Item) (m : Name) → module_read known i ≡ Some m → (i ≡ item.Module m) × IsName known m
-module_sound known (item.Module n) m e = let name = name_sound known n m e in (ap (λ x. item.Module x) name.0, name.1)
+module_named_sound : (known : KnownNames) (d : DeclarationLine) (m : Name) → module_named known d ≡ Some m → (item.Declares d ≡ module_item m) × IsName known m
+module_named_sound known (header.Module None n) m e = let name = name_sound known n m e in (ap (λ x. module_item x) name.0, name.1)
+module_named_sound known d m e = absurd cc
+
+module_sound : (known : KnownNames) (i : Item) (m : Name) → module_read known i ≡ Some m → (i ≡ module_item m) × IsName known m
+module_sound known (item.Declares d) m e = module_named_sound known d m e
 module_sound known i m e = absurd cc
 
 -- the items are those of a program that is kept as this
@@ -73,8 +93,8 @@ module _ (known : KnownNames) where
         outlined = record { locals = locals; lines = lines };
         items = ap (λ x. x ∷ b ∷ c ∷ ls) (imports_sound known a both.0)
             ∙ ap (λ x. imports_item ∷ x ∷ c ∷ ls) name.0
-            ∙ ap (λ x. imports_item ∷ item.Module m.0 ∷ x ∷ ls) (sub_sound known c both.1)
-            ∙ ap (λ x. imports_item ∷ item.Module m.0 ∷ item.Sub known.main ∷ x) (d.items ∙ ap (λ x. dim_items d.more d.more d.inits ++ (map (λ l. line_item known d.more l) x ++ end_items)) block.1);
+            ∙ ap (λ x. imports_item ∷ module_item m.0 ∷ x ∷ ls) (sub_sound known c both.1)
+            ∙ ap (λ x. imports_item ∷ module_item m.0 ∷ sub_item known.main ∷ x) (d.items ∙ ap (λ x. dim_items d.more d.more d.inits ++ (map (λ l. line_item known d.more l) x ++ end_items)) block.1);
         counted = d.same;
         distinct = distinct_of known m.0 [] d.more (name.1, none, tt) d.chain;
         mixed = subst (λ x. AreMixedLines x) block.1 d.mixed;
@@ -84,9 +104,9 @@ module _ (known : KnownNames) where
   pub file_made : (items : List Item) (t : Tree) (p : IsProgramOf known items t) → file_read known items ≡ Some (outline t.locals (lines_of t.body))
   file_made items t p =
       let rest : List Item = dim_items p.names p.names t.locals ++ (map (λ l. line_item known p.names l) (lines_of t.body) ++ end_items) in
-      let go : Option Outline = and_then (module_read known (item.Module p.m)) (λ m. dims_read known m [] [] rest) in
+      let go : Option Outline = and_then (module_read known (module_item p.m)) (λ m. dims_read known m [] [] rest) in
       ap (λ ls. file_read known ls) p.items_are
-      ∙ ap (λ (b : Bool). if b && is_sub known (item.Sub known.main) then go else None) (same_self known.system)
+      ∙ ap (λ (b : Bool). if b && is_sub known (sub_item known.main) then go else None) (same_self known.system)
       ∙ ap (λ (b : Bool). if b then go else None) (same_self known.main)
       ∙ ap (λ o. and_then o (λ m. dims_read known m [] [] rest)) (name_made known p.m p.distinct.0)
       ∙ dims_made known p.m [] p.names [] t.locals (lines_of t.body) p.counted p.distinct p.bound.locals (subst (λ n. AreLines n (lines_of t.body)) (sym p.counted) p.bound.lines) p.mixed p.fit.0 p.fit.1 (depth_after-lines_of t.body)

@@ -19,6 +19,9 @@ use Rattle.vb_syntax.specs.declared.declarator.VariableModifier.{VariableModifie
 use Rattle.vb_syntax.specs.declared.declarator.VariableModifier.TheVariants as modifier
 use Rattle.vb_syntax.specs.declared.declarator.Declarator.{Declarator}
 use Rattle.vb_syntax.specs.declared.declarator.Declarator.TheVariants as declarator
+use Rattle.vb_syntax.specs.declared.statement.LocalModifier.TheVariants as local
+use Rattle.vb_syntax.specs.declared.item.DeclarationLine.{DeclarationLine}
+use Rattle.vb_syntax.specs.declared.item.DeclarationLine.TheVariants as header
 use Rattle.vb_syntax.specs.declared.item.Item.{Item}
 use Rattle.vb_syntax.specs.declared.item.Item.TheVariants as item
 use Rattle.vb_syntax.specs.declared.item.BlockWord.TheVariants as block
@@ -30,11 +33,11 @@ use Rattle.vb_bound.specs.declared.tree.Statement.TheVariants.{Assign, WriteLine
 use Rattle.vb_bound.specs.declared.tree.Line.{Line}
 use Rattle.vb_bound.specs.declared.tree.Line.TheVariants.{Does, While, EndWhile}
 use Rattle.vb_bind.specs.declared.names.KnownNames.{KnownNames}
-use Rattle.vb_bind.specs.Grammar.{name_at, operand_tree, binary_of, relation_of, expr_tree, line_item, initial_tree, dim_item, IsFit, IsFitExpr, IsFitLine, IsFitInitial, IsForm, imports, module_header, main_header, declaration, line, main_end, module_end}
-use Rattle.vb_bind.specs.Parsing.{Layer, named, number_read, operator_read, relation_read, is_write_line, is_integer_type, is_some, is_operand_form, is_expr_form_at, is_expr_form, is_assign_form, is_argument_form, is_write_form_at, is_write_form, is_while_form_at, is_while_form, is_initial_form, is_variable_form, is_declarator_form, is_dim_form, is_form}
+use Rattle.vb_bind.specs.Grammar.{name_at, operand_tree, binary_of, relation_of, expr_tree, line_item, initial_tree, dim_item, IsFit, IsFitExpr, IsFitLine, IsFitInitial, IsForm, imports, module_header, main_header, declaration, of_line, main_end, module_end}
+use Rattle.vb_bind.specs.Parsing.{Layer, named, number_read, operator_read, relation_read, is_write_line, is_integer_type, is_some, is_operand_form, is_expr_form_at, is_expr_form, is_assign_form, is_argument_form, is_write_form_at, is_write_form, is_while_form_at, is_while_form, is_initial_form, is_variable_form, is_declarator_form, is_dim_form, is_header_form, is_form}
 use Rattle.vb_bind.proofs.Trees.{and_is, same_is, same_self, named_is, number_is, integer_made, binary_is, call_is, integer_type_is, plain_is}
 use Rattle.vb_bind.proofs.OneLine.{operator_sound, relation_sound, operator_made, relation_made, write_line_tree, write_line_is, write_line_made}
-use Rattle.vb_bind.proofs.Files.{system_sound}
+use Rattle.vb_bind.proofs.Files.{system_sound, sub_sound}
 
 some_is : {A : Type 0} (o : Option A) → is_some o ≡ true → (x : A) × (o ≡ Some x)
 some_is None h = absurd cc
@@ -95,7 +98,7 @@ expr_as x h = by_layer (out-Expr x) refl h
 
 module _ (known : KnownNames) where
   by_line : (i : Item) (names : List Name) (l : Line) → IsFitLine l → i ≡ line_item known names l → IsForm known i
-  by_line i names l fit is = subst (λ j. IsForm known j) (sym is) (line names l fit)
+  by_line i names l fit is = subst (λ j. IsForm known j) (sym is) (of_line names l fit)
 
   assign_form : (a x : SyntaxExpr) → is_assign_form a x ≡ true → IsForm known (item.Assignment a x)
   assign_form a x h =
@@ -152,36 +155,41 @@ module _ (known : KnownNames) where
   variable_as (v ∷ []) h = (v.name, ap (λ (m : VariableModifier). record { name = v.name; modifier = m } ∷ []) (plain_is v.modifier h))
   variable_as (v ∷ w ∷ vs) h = absurd cc
 
-  declarator_form : (a : Declarator) → is_declarator_form a ≡ true → IsForm known (item.Dim (a ∷ []))
+  declarator_form : (a : Declarator) → is_declarator_form a ≡ true → IsForm known (item.Declaration local.Dim (a ∷ []))
   declarator_form (declarator.As vs t i) h =
       let k = and_is (is_integer_type t) (is_variable_form vs && is_initial_form i) h in
       let both = and_is (is_variable_form vs) (is_initial_form i) k.1 in
       let n = variable_as vs both.0 in
       let d = initial_as i both.1 in
-      let is : item.Dim (declarator.As vs t i ∷ []) ≡ dim_item d.0 n.0 d.1 =
-      ap (λ x. item.Dim (declarator.As x t i ∷ [])) n.1
-      ∙ ap (λ x. item.Dim (declarator.As (record { name = n.0; modifier = modifier.Plain } ∷ []) x i ∷ [])) (integer_type_is t k.0)
-      ∙ ap (λ x. item.Dim (declarator.As (record { name = n.0; modifier = modifier.Plain } ∷ []) (type_name.Simple (simple.BuiltIn (built_in.Primitive primitive.Integer))) x ∷ [])) d.2 in
+      let is : item.Declaration local.Dim (declarator.As vs t i ∷ []) ≡ dim_item d.0 n.0 d.1 =
+      ap (λ x. item.Declaration local.Dim (declarator.As x t i ∷ [])) n.1
+      ∙ ap (λ x. item.Declaration local.Dim (declarator.As (record { name = n.0; modifier = modifier.Plain } ∷ []) x i ∷ [])) (integer_type_is t k.0)
+      ∙ ap (λ x. item.Declaration local.Dim (declarator.As (record { name = n.0; modifier = modifier.Plain } ∷ []) (type_name.Simple (simple.BuiltIn (built_in.Primitive primitive.Integer))) x ∷ [])) d.2 in
       subst (λ j. IsForm known j) (sym is) (declaration d.0 n.0 d.1 d.3)
   declarator_form a h = absurd cc
 
-  dim_form : (all : List Declarator) → is_dim_form all ≡ true → IsForm known (item.Dim all)
+  dim_form : (all : List Declarator) → is_dim_form all ≡ true → IsForm known (item.Declaration local.Dim all)
   dim_form [] h = absurd cc
   dim_form (a ∷ []) h = declarator_form a h
   dim_form (a ∷ b ∷ all) h = absurd cc
 
+  header_form : (d : DeclarationLine) → is_header_form known d ≡ true → IsForm known (item.Declares d)
+  header_form (header.Module None m) h = module_header m
+  header_form (header.Sub ms s is) h = subst (λ x. IsForm known x) (sym (sub_sound known (item.Declares (header.Sub ms s is)) h)) main_header
+  header_form d h = absurd cc
+
   -- an item that the tests take has the form
   pub form_sound : (i : Item) → is_form known i ≡ true → IsForm known i
   form_sound (item.Imports ns) h = subst (λ x. IsForm known (item.Imports x)) (sym (system_sound known ns h)) imports
-  form_sound (item.Module m) h = module_header m
-  form_sound (item.Sub n) h = subst (λ x. IsForm known (item.Sub x)) (sym (same_is n known.main h)) main_header
-  form_sound (item.Dim all) h = dim_form all h
+  form_sound (item.Declares d) h = header_form d h
+  form_sound (item.Declaration local.Dim all) h = dim_form all h
   form_sound (item.Assignment a x) h = assign_form a x h
   form_sound (item.Invocation x) h = write_form x h
   form_sound (item.While x) h = while_form x h
   form_sound (item.End block.Sub) h = main_end
   form_sound (item.End block.Module) h = module_end
-  form_sound (item.End block.While) h = line [] EndWhile tt
+  form_sound (item.End block.While) h = of_line [] EndWhile tt
+  form_sound i h = absurd cc
 
   -- OF A PROGRAM AND SO TESTED
 
@@ -222,6 +230,6 @@ module _ (known : KnownNames) where
   form_made (module_header m) = refl
   form_made main_header = same_self known.main
   form_made (declaration names n d fit) = initial_form names d fit
-  form_made (line names l fit) = line_form names l fit
+  form_made (of_line names l fit) = line_form names l fit
   form_made main_end = refl
   form_made module_end = refl

@@ -1,5 +1,5 @@
 -- The steps of reading items.
-use Rattle.std.proofs.Common.{◌≡◌, ℕ, ◌+◌, ◌<◌, Bool, true, false, List, [], ◌∷◌, ◌++◌, length, Option, Some, None, refl, sym, ap, subst, ◌∙◌, arith}
+use Rattle.std.proofs.Common.{◌≡◌, ℕ, suc, ◌+◌, ◌-◌, ◌<◌, ◌≤◌, Bool, true, false, List, [], ◌∷◌, ◌++◌, length, take, take_all, drop, get_or, Option, Some, None, refl, sym, ap, subst, ◌∙◌, arith}
 use Rattle.std.specs.Prelude.{◌==◌, if◌then◌else◌}
 use Rattle.vb_text.specs.declared.names.Name.{Name}
 use Rattle.vb_syntax.specs.declared.item.Item.{Item}
@@ -8,6 +8,16 @@ use Rattle.vb_bound.specs.declared.tree.Line.{Line}
 use Rattle.vb_bound.specs.Tree.{outline, IsInitialOf, IsLineOf, AreLocals, AreLines}
 use Rattle.vb_bind.specs.declared.names.KnownNames.{KnownNames}
 use Rattle.vb_bind.specs.Parsing.{and_then, is_ends, line_read, lines_read, dim_read, dim_or, is_new, dims_read, file_read, line_depth, depth_after}
+
+-- the first item and those behind it, as a pattern of both takes them
+abbrev pub behind_first : List Item → List Item
+behind_first rest = take (length rest - 1) (drop 1 rest)
+
+pub first_is : (rest : List Item) (l : Item) → 1 ≤ length rest → l ≡ get_or rest 0 l → rest ≡ l ∷ behind_first rest
+first_is [] l some e = absurd (omega arith)
+first_is (x ∷ xs) l some e =
+    let all : take (suc (length xs) - 1) xs ≡ xs = take_all _ xs (omega arith) in
+    ap (λ y. y ∷ xs) (sym e) ∙ ap (λ ys. l ∷ ys) (sym all)
 
 pub next_line : (known : KnownNames) (names : List Name) (locals : List (Option Operand)) (lines grown : List Line) (depth next : ℕ) (rest : List Item) (l : Item) (behind : List Item) (x : Line) → rest ≡ l ∷ behind → is_ends rest ≡ false → line_read known names l ≡ Some x → line_depth depth x ≡ Some next → grown ≡ lines ++ x ∷ [] → lines_read known names locals lines depth rest ≡ lines_read known names locals grown next behind
 next_line known names locals lines grown depth next rest l behind x e ends read counted grows =

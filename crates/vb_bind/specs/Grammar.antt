@@ -19,6 +19,8 @@ use Rattle.vb_syntax.specs.declared.expression.VariableInitializer.{VariableInit
 use Rattle.vb_syntax.specs.declared.expression.VariableInitializer.TheVariants as init
 use Rattle.vb_syntax.specs.declared.declarator.VariableModifier.TheVariants as modifier
 use Rattle.vb_syntax.specs.declared.declarator.Declarator.TheVariants as declarator
+use Rattle.vb_syntax.specs.declared.statement.LocalModifier.TheVariants as local
+use Rattle.vb_syntax.specs.declared.item.DeclarationLine.TheVariants as line
 use Rattle.vb_syntax.specs.declared.item.Item.{Item}
 use Rattle.vb_syntax.specs.declared.item.Item.TheVariants as item
 use Rattle.vb_syntax.specs.declared.item.BlockWord.TheVariants as block
@@ -88,19 +90,27 @@ initial_tree names (Some p) = Some (init.Expression (operand_tree names p))
 
 -- the declaration of one Integer of this name, where all names are these
 abbrev pub dim_item : List Name → Name → Option Operand → Item
-dim_item all n d = item.Dim (declarator.As (record { name = n; modifier = modifier.Plain } ∷ []) (type_name.Simple (simple.BuiltIn (built_in.Primitive primitive.Integer))) (initial_tree all d) ∷ [])
+dim_item all n d = item.Declaration local.Dim (declarator.As (record { name = n; modifier = modifier.Plain } ∷ []) (type_name.Simple (simple.BuiltIn (built_in.Primitive primitive.Integer))) (initial_tree all d) ∷ [])
 
 -- the declarations of the names that are left, of all names
 abbrev pub dim_items : List Name → List Name → List (Option Operand) → List Item
 dim_items all (n ∷ ns) (d ∷ ds) = dim_item all n d ∷ dim_items all ns ds
 dim_items all ns ds = []
 
+-- the header of a module without an access
+abbrev pub module_item : Name → Item
+module_item m = item.Declares (line.Module None m)
+
+-- the header of a Sub without modifiers, type parameters and parameters, which implements nothing
+abbrev pub sub_item : Name → Item
+sub_item n = item.Declares (line.Sub [] (record { name = n; type_parameters = []; parameters = [] }) [])
+
 -- the items of the program of the module m whose locals have these names
 abbrev pub file_items : KnownNames → Name → List Name → Tree → List Item
 file_items known m names t =
     item.Imports ((known.system ∷ []) ∷ [])
-    ∷ item.Module m
-    ∷ item.Sub known.main
+    ∷ module_item m
+    ∷ sub_item known.main
     ∷ (dim_items names names t.locals
     ++ (map (λ l. line_item known names l) (lines_of t.body)
     ++ (item.End block.Sub ∷ item.End block.Module ∷ [])))
@@ -188,10 +198,10 @@ pub record IsProgramOf (known : KnownNames) (items : List Item) (t : Tree) : Typ
 -- The item is one of a program, whatever the names and the numbers are.
 pub data IsForm (known : KnownNames) : Item → Type 0 where
   imports : IsForm known (item.Imports ((known.system ∷ []) ∷ []))
-  module_header : (m : Name) → IsForm known (item.Module m)
-  main_header : IsForm known (item.Sub known.main)
+  module_header : (m : Name) → IsForm known (module_item m)
+  main_header : IsForm known (sub_item known.main)
   declaration : (names : List Name) (n : Name) (d : Option Operand) → IsFitInitial d → IsForm known (dim_item names n d)
-  line : (names : List Name) (l : Line) → IsFitLine l → IsForm known (line_item known names l)
+  of_line : (names : List Name) (l : Line) → IsFitLine l → IsForm known (line_item known names l)
   main_end : IsForm known (item.End block.Sub)
   module_end : IsForm known (item.End block.Module)
 

@@ -28,6 +28,10 @@ use Rattle.vb_syntax.specs.declared.declarator.VariableModifier.{VariableModifie
 use Rattle.vb_syntax.specs.declared.declarator.VariableModifier.TheVariants as modifier
 use Rattle.vb_syntax.specs.declared.declarator.Declarator.{Declarator}
 use Rattle.vb_syntax.specs.declared.declarator.Declarator.TheVariants as declarator
+use Rattle.vb_syntax.specs.declared.statement.LocalModifier.TheVariants as local
+use Rattle.vb_syntax.specs.declared.declaration.MethodSignature.{MethodSignature}
+use Rattle.vb_syntax.specs.declared.item.DeclarationLine.{DeclarationLine}
+use Rattle.vb_syntax.specs.declared.item.DeclarationLine.TheVariants as header
 use Rattle.vb_syntax.specs.declared.item.Item.{Item}
 use Rattle.vb_syntax.specs.declared.item.Item.TheVariants as item
 use Rattle.vb_syntax.specs.declared.item.BlockWord.{BlockWord}
@@ -250,7 +254,7 @@ declared_read known names (d ∷ []) = declarator_read known names d
 declared_read known names ds = None
 
 abbrev pub dim_read : KnownNames → List Name → Item → Option (Name × Option Operand)
-dim_read known names (item.Dim ds) = declared_read known names ds
+dim_read known names (item.Declaration local.Dim ds) = declared_read known names ds
 dim_read known names i = None
 
 abbrev pub is_end : Item → BlockWord → Bool
@@ -284,12 +288,27 @@ abbrev pub is_imports : KnownNames → Item → Bool
 is_imports known (item.Imports ns) = is_system known ns
 is_imports known i = false
 
+abbrev pub module_named : KnownNames → DeclarationLine → Option Name
+module_named known (header.Module None n) = name_read known n
+module_named known d = None
+
 abbrev pub module_read : KnownNames → Item → Option Name
-module_read known (item.Module n) = name_read known n
+module_read known (item.Declares d) = module_named known d
 module_read known i = None
 
+abbrev pub is_nothing : {A : Type 0} → List A → Bool
+is_nothing [] = true
+is_nothing (x ∷ xs) = false
+
+abbrev pub is_main_signature : KnownNames → MethodSignature → Bool
+is_main_signature known s = is_nothing s.type_parameters && (is_nothing s.parameters && same_name s.name known.main)
+
+abbrev pub is_main : KnownNames → DeclarationLine → Bool
+is_main known (header.Sub ms s is) = is_nothing ms && (is_nothing is && is_main_signature known s)
+is_main known d = false
+
 abbrev pub is_sub : KnownNames → Item → Bool
-is_sub known (item.Sub n) = same_name n known.main
+is_sub known (item.Declares d) = is_main known d
 is_sub known i = false
 
 -- the program of the items
@@ -355,12 +374,24 @@ abbrev pub is_dim_form : List Declarator → Bool
 is_dim_form (d ∷ []) = is_declarator_form d
 is_dim_form ds = false
 
+-- whether the word is that of a block of a program
+abbrev pub is_end_form : BlockWord → Bool
+is_end_form block.Module = true
+is_end_form block.Sub = true
+is_end_form block.While = true
+is_end_form w = false
+
+abbrev pub is_header_form : KnownNames → DeclarationLine → Bool
+is_header_form known (header.Module None n) = true
+is_header_form known (header.Sub ms s is) = is_main known (header.Sub ms s is)
+is_header_form known d = false
+
 abbrev pub is_form : KnownNames → Item → Bool
 is_form known (item.Imports ns) = is_system known ns
-is_form known (item.Module n) = true
-is_form known (item.Sub n) = same_name n known.main
-is_form known (item.Dim ds) = is_dim_form ds
+is_form known (item.Declares d) = is_header_form known d
+is_form known (item.Declaration local.Dim ds) = is_dim_form ds
 is_form known (item.Assignment a x) = is_assign_form a x
 is_form known (item.Invocation x) = is_write_form known x
 is_form known (item.While x) = is_while_form x
-is_form known (item.End w) = true
+is_form known (item.End w) = is_end_form w
+is_form known i = false

@@ -1,13 +1,16 @@
 // Whether an item is one of a program, whatever the names and the numbers are.
 ghost use Rattle.std.specs.Prelude.{◌≡◌, ◌↔◌, IsTrue};
 ghost use Rattle.vb_bind.specs.Grammar.{IsForm};
-ghost use Rattle.vb_bind.specs.Parsing.{is_operand_form as is_operand_tree, is_expr_form as is_expr_tree, is_assign_form as is_assign_item, is_argument_form as is_argument_list, is_write_form as is_write_tree, is_while_form as is_while_tree, is_initial_form as is_initial_tree, is_variable_form as is_variable_list, is_declarator_form as is_declarator_tree, is_dim_form as is_dim_list, is_form as is_form_item};
+ghost use Rattle.vb_bind.specs.Parsing.{is_operand_form as is_operand_tree, is_expr_form as is_expr_tree, is_assign_form as is_assign_item, is_argument_form as is_argument_list, is_write_form as is_write_tree, is_while_form as is_while_tree, is_initial_form as is_initial_tree, is_variable_form as is_variable_list, is_declarator_form as is_declarator_tree, is_dim_form as is_dim_list, is_end_form as is_end_word, is_header_form as is_header_line, is_form as is_form_item};
 
 use crate::expressions::{name_of, number_of, operator_of, relation_of};
 use crate::lines::{is_integer_type, is_plain, is_write_line};
-use crate::names::{KnownNames, is_same};
-use crate::program::is_system;
-use vb_syntax::{Declarator, Expr, Item, VariableIdentifier, VariableInitializer};
+use crate::names::KnownNames;
+use crate::program::{is_main, is_system};
+use vb_syntax::{
+    BlockWord, DeclarationLine, Declarator, Expr, Item, LocalModifier, VariableIdentifier,
+    VariableInitializer,
+};
 
 /// Whether an item is one of a program, whatever its names and its numbers are (Visual Basic Language Specification 11.0,
 /// 1.1). A number is still an Integer, and the names that the grammar uses stand where it uses them.
@@ -22,13 +25,33 @@ fn is_form(known: &KnownNames, item: &Item) -> bool
 {
     match item {
         Item::Imports(namespaces) => is_system(known, namespaces.as_slice()),
-        Item::Module(_) => true,
-        Item::Sub(name) => is_same(*name, known.main),
-        Item::Dim(declarators) => is_dim(declarators.as_slice()),
+        Item::Declares(header) => is_header(known, header),
+        Item::Declaration(LocalModifier::Dim, declarators) => is_dim(declarators.as_slice()),
         Item::Assignment(target, value) => is_assign(target, value),
         Item::Invocation(call) => is_write(known, call),
         Item::While(test) => is_while(test),
-        Item::End(_) => true,
+        Item::End(word) => is_block_end(*word),
+        _ => false,
+    }
+}
+
+fn is_header(known: &KnownNames, header: &DeclarationLine) -> bool
+    ensures { result ≡ is_header_line known.now header.now }
+{
+    match header {
+        DeclarationLine::Module(None, _) => true,
+        DeclarationLine::Sub(_, _, _) => is_main(known, header),
+        _ => false,
+    }
+}
+
+// Whether the word is that of a block of a program.
+fn is_block_end(word: BlockWord) -> bool
+    ensures { result ≡ is_end_word word }
+{
+    match word {
+        BlockWord::Module | BlockWord::Sub | BlockWord::While => true,
+        _ => false,
     }
 }
 

@@ -7,8 +7,9 @@ use crate::expressions::{condition_of, expr_of, is_name, named_local, operand_of
 use crate::names::{KnownNames, is_same, new_name_of};
 use vb_bound::{Expr, Line, Operand, Statement};
 use vb_syntax::{
-    BlockWord, BuiltInTypeName, Declarator, Expr as SyntaxExpr, Item, PrimitiveTypeName,
-    SimpleTypeName, TypeName, VariableIdentifier, VariableInitializer, VariableModifier,
+    BlockWord, BuiltInTypeName, Declarator, Expr as SyntaxExpr, Item, LocalModifier,
+    PrimitiveTypeName, SimpleTypeName, TypeName, VariableIdentifier, VariableInitializer,
+    VariableModifier,
 };
 use vb_text::Name;
 
@@ -157,7 +158,9 @@ pub fn dim_of(known: &KnownNames, names: &[Name], item: &Item) -> Option<(Name, 
     ensures bound { IfSome result (λ d. IsInitialOf (length names.now) d.1) }
 {
     match item {
-        Item::Dim(declarators) => declared(known, names, declarators.as_slice()),
+        Item::Declaration(LocalModifier::Dim, declarators) => {
+            declared(known, names, declarators.as_slice())
+        }
         _ => None,
     }
 }

@@ -2,7 +2,7 @@
 ghost use Rattle.std.specs.Prelude.{◌≡◌, List, [], length, IfOk, Err};
 ghost use Rattle.vb_bound.specs.Tree.{Tree, AreLocals, IsBound, IsOutlineOf};
 ghost use Rattle.vb_bind.specs.Grammar.{IsProgramOf};
-ghost use Rattle.vb_bind.specs.Parsing.{is_system as is_system_list, is_end as is_end_item, is_ends, is_imports as is_imports_item, module_read, is_sub as is_sub_item, lines_read, dims_read, file_read};
+ghost use Rattle.vb_bind.specs.Parsing.{is_system as is_system_list, is_end as is_end_item, is_ends, is_imports as is_imports_item, module_read, is_sub as is_sub_item, is_main as is_main_header, is_main_signature as is_signature_of_main, is_nothing as is_nothing_list, module_named as name_of_module, lines_read, dims_read, file_read};
 ghost use Rattle.vb_bind.specs.Reading.{Reads};
 
 use crate::lines::{depth_behind, dim_of, is_block, line_of};
@@ -10,7 +10,7 @@ use crate::names::{KnownNames, is_new_name, is_same, new_name_of};
 use sqlite_items::Items;
 use std::alloc::Global;
 use vb_bound::{Line, Operand, Program};
-use vb_syntax::{BlockWord, Item};
+use vb_syntax::{BlockWord, DeclarationLine, Item, MethodSignature};
 use vb_text::Name;
 
 /// Why no program was read (Visual Basic Language Specification 11.0, 1.1).
@@ -83,7 +83,38 @@ fn is_sub(known: &KnownNames, item: &Item) -> bool
     ensures { result ≡ is_sub_item known.now item.now }
 {
     match item {
-        Item::Sub(name) => is_same(*name, known.main),
+        Item::Declares(header) => is_main(known, header),
+        _ => false,
+    }
+}
+
+// Whether it is the header of the procedure where a program begins.
+pub fn is_main(known: &KnownNames, header: &DeclarationLine) -> bool
+    ensures { result ≡ is_main_header known.now header.now }
+{
+    match header {
+        DeclarationLine::Sub(modifiers, signature, implements) => {
+            is_nothing(modifiers.as_slice())
+                && is_nothing(implements.as_slice())
+                && is_main_signature(known, signature)
+        }
+        _ => false,
+    }
+}
+
+fn is_main_signature(known: &KnownNames, signature: &MethodSignature) -> bool
+    ensures { result ≡ is_signature_of_main known.now signature.now }
+{
+    is_nothing(signature.type_parameters.as_slice())
+        && is_nothing(signature.parameters.as_slice())
+        && is_same(signature.name, known.main)
+}
+
+fn is_nothing<T>(list: &[T]) -> bool
+    ensures { result ≡ is_nothing_list list.now }
+{
+    match list {
+        [] => true,
         _ => false,
     }
 }
@@ -92,7 +123,17 @@ fn module_name(known: &KnownNames, item: &Item) -> Option<Name>
     ensures { result ≡ module_read known.now item.now }
 {
     match item {
-        Item::Module(name) => new_name_of(known, *name),
+        Item::Declares(header) => module_named(known, header),
+        _ => None,
+    }
+}
+
+// The name of a module without an access.
+fn module_named(known: &KnownNames, header: &DeclarationLine) -> Option<Name>
+    ensures { result ≡ name_of_module known.now header.now }
+{
+    match header {
+        DeclarationLine::Module(None, name) => new_name_of(known, *name),
         _ => None,
     }
 }
@@ -110,7 +151,7 @@ fn body_of(
     let mut names: Vec<Name> = Vec::new(alloc);
     let mut locals: Vec<Option<Operand>> = Vec::new(alloc);
     let mut rest = body;
-    while let Some((item, behind)) = rest.split_first() {
+    while let [item, behind @ ..] = rest {
         let Some((name, initial)) = dim_of(known, &names, item) else {
             return lines_of(alloc, known, &names, locals, rest);
         };
@@ -141,7 +182,7 @@ fn lines_of(
     let mut lines: Vec<Line> = Vec::new(alloc);
     let mut depth: usize = 0;
     let mut rest = body;
-    while let Some((first, behind)) = rest.split_first() {
+    while let [first, behind @ ..] = rest {
         if are_ends(rest) {
             if depth > 0 {
                 return Err(ReadErr::Refused);

@@ -4,9 +4,9 @@ use std::alloc::{AllocError, Global};
 use std::test::Fail;
 use vb_bound::{Operand, Program, Statement};
 use vb_syntax::{
-    BinaryOperator, BlockWord, BuiltInTypeName, Declarator, Expr, IntegerLiteral, IntegerType,
-    Item, PrimitiveTypeName, RelationalOperator, SimpleTypeName, TypeName, VariableIdentifier,
-    VariableInitializer, VariableModifier,
+    BinaryOperator, BlockWord, BuiltInTypeName, DeclarationLine, Declarator, Expr, IntegerLiteral,
+    IntegerType, Item, LocalModifier, MethodSignature, PrimitiveTypeName, RelationalOperator,
+    SimpleTypeName, TypeName, VariableIdentifier, VariableInitializer, VariableModifier,
 };
 use vb_text::{Name, NameTable};
 
@@ -74,6 +74,7 @@ fn block_end(word: &str) -> Item {
     match word {
         "Sub" => Item::End(BlockWord::Sub),
         "Module" => Item::End(BlockWord::Module),
+        "If" => Item::End(BlockWord::If),
         _ => Item::End(BlockWord::While),
     }
 }
@@ -110,7 +111,12 @@ fn initial(
 }
 
 // A declaration, behind its word.
-fn dim(alloc: Global, names: &mut NameTable, text: &str) -> Result<Item, AllocError> {
+fn declaration(
+    alloc: Global,
+    names: &mut NameTable,
+    modifier: LocalModifier,
+    text: &str,
+) -> Result<Item, AllocError> {
     let (name, behind) = text.split_once(" As ").unwrap_or((text, "Integer"));
     let (word, value) = match behind.split_once(" = ") {
         Some((word, value)) => (word, Some(value)),
@@ -121,7 +127,7 @@ fn dim(alloc: Global, names: &mut NameTable, text: &str) -> Result<Item, AllocEr
     let initial = initial(alloc, names, value)?;
     let mut declarators = Items::new(alloc);
     declarators.push(Declarator::As(variables, type_name(word), initial))?;
-    Ok(Item::Dim(declarators))
+    Ok(Item::Declaration(modifier, declarators))
 }
 
 // The one argument, or the two that a comma parts.
@@ -161,6 +167,16 @@ fn assign(
     Ok(Item::Assignment(target, expr(alloc, names, value)?))
 }
 
+// The header of a Sub.
+fn header(alloc: Global, name: Name) -> Item {
+    let signature = MethodSignature {
+        name,
+        type_parameters: Items::new(alloc),
+        parameters: Items::new(alloc),
+    };
+    Item::Declares(DeclarationLine::Sub(Items::new(alloc), signature, Items::new(alloc)))
+}
+
 // The item of a line: `Write` and `WriteLine` are called with what stands behind.
 fn item(alloc: Global, names: &mut NameTable, line: &str) -> Result<Item, AllocError> {
     if let Some((target, value)) = line.split_once(" := ") {
@@ -169,9 +185,10 @@ fn item(alloc: Global, names: &mut NameTable, line: &str) -> Result<Item, AllocE
     let (word, behind) = line.split_once(' ').unwrap_or((line, ""));
     match word {
         "Imports" => imports(alloc, names.intern(behind)?),
-        "Module" => Ok(Item::Module(names.intern(behind)?)),
-        "Sub" => Ok(Item::Sub(names.intern(behind)?)),
-        "Dim" => dim(alloc, names, behind),
+        "Module" => Ok(Item::Declares(DeclarationLine::Module(None, names.intern(behind)?))),
+        "Sub" => Ok(header(alloc, names.intern(behind)?)),
+        "Dim" => declaration(alloc, names, LocalModifier::Dim, behind),
+        "Const" => declaration(alloc, names, LocalModifier::Const, behind),
         "While" => Ok(Item::While(expr(alloc, names, behind)?)),
         "End" => Ok(block_end(behind)),
         _ => call(alloc, names, word, behind),
@@ -239,8 +256,9 @@ fn reads_programs(rt: HostRuntime) -> Result<(), Fail> {
 
 #[test]
 fn refuses_what_is_no_program(rt: HostRuntime) -> Result<(), Fail> {
-    let cases: [&[&str]; 17] = [
+    let cases: [&[&str]; 19] = [
         &["End While"],
+        &["End If"],
         &["Dim a As Integer", "While a < 1"],
         &["WriteLine a"],
         &["Dim a As Integer = b", "Dim b As Integer"],
@@ -248,6 +266,7 @@ fn refuses_what_is_no_program(rt: HostRuntime) -> Result<(), Fail> {
         &["Dim squares As Integer"],
         &["Dim main As Integer"],
         &["Dim a As Long"],
+        &["Const a As Integer = 1"],
         &["Dim a() As Integer"],
         &["WriteLine 1 + 2"],
         &["WriteLine 2147483648"],
@@ -338,12 +357,14 @@ fn tells_other_forms(rt: HostRuntime) -> Result<(), Fail> {
         "Dim a As Integer = a + 1",
         "Dim a As Long",
         "Dim a() As Integer",
+        "Const a As Integer = 1",
         "a := 1 < 2",
         "1 := a",
         "WriteLine 2147483648",
         "WriteLine a, b",
         "Write a",
         "While a",
+        "End If",
     ];
     assert!(rt; all_are(rt.alloc(), others.as_slice(), false)?);
     Ok(())

@@ -18,9 +18,10 @@ use Rattle.vb_lexer.proofs.Unique.{never_both}
 use Rattle.vb_top.specs.Words.{file_of_words}
 use Rattle.vb_syntax.specs.declared.item.Item.{Item}
 use Rattle.vb_syntax.specs.declared.tokens.Line.{Line}
+use Rattle.vb_syntax.specs.declared.words.ContextualWords.{ContextualWords}
 use Rattle.vb_bind.specs.declared.names.KnownNames.{KnownNames}
 use Rattle.vb_bind.specs.Grammar.{IsProgramOf, widest}
-use Rattle.vb_top.specs.Programs.{AreItems, HaveForms, IsFirstUnbuilt, IsProgram, LeastBroken}
+use Rattle.vb_top.specs.Programs.{AreItems, HaveForms, outside, IsFirstUnbuilt, IsProgram, LeastBroken}
 use Rattle.vb_top.proofs.Forms.{program_forms, none_unbuilt}
 use Rattle.vb_top.proofs.Compiled.{same_lines, is_wide}
 use Rattle.vb_top.specs.Answers.{Tells, line_of, status_of}
@@ -47,9 +48,10 @@ sound_program : (bytes : List ℕ) (t : Tree) (line rule : ℕ) → IsProgram by
 sound_program bytes t line rule p (inl breaks) = never_both p.read.names 0 bytes p.read.lines line rule p.read.lexed.lexed breaks
 sound_program bytes t line rule p (inr (read, is, inl first)) =
     let same = same_lines bytes p.read read in
-    let are : AreItems read.lines p.items = subst (λ (ls : List Line). AreItems ls p.items) same.0 p.are_items in
+    let here : AreItems (outside p.read.words) read.lines p.items = subst (λ (ls : List Line). AreItems (outside p.read.words) ls p.items) same.0 p.are_items in
+    let are : AreItems (outside read.words) read.lines p.items = subst (λ (w : ContextualWords). AreItems (outside w) read.lines p.items) same.2 here in
     let program : IsProgramOf read.known p.items t = subst (λ (k : KnownNames). IsProgramOf k p.items t) same.1 p.program in
-    none_unbuilt read.known read.lines p.items line are (program_forms read.known p.items t program) first
+    none_unbuilt read.known (outside read.words) read.lines p.items line are (program_forms read.known p.items t program) first
 sound_program bytes t line rule p (inr (read, is, inr none)) = none.1 t p
 
 pub works_of : (words : List (List ℕ)) (told : Option Files) (file bytes : List ℕ) (fb fn : ℕ) (input : List ℕ) (old new : Option (List ℕ)) (b n : ℕ) (said : Answer) (report : Option Report) (name : List ℕ) → IsLoaded words told file bytes → Built bytes input old new b n said report name → Works words told file fb fn input old new b n said report name

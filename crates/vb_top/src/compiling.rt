@@ -2,6 +2,7 @@
 ghost use Rattle.std.specs.Prelude.{◌≡◌, ◌≤◌, List, length, IfOk, Err};
 ghost use Rattle.vb_diag.specs.declared.refusal.Refusal.{Refusal as OneRefusal};
 ghost use Rattle.vb_syntax.specs.declared.item.Item.{Item as OneItem};
+ghost use Rattle.vb_syntax.specs.ContextualWords.{OptionsApart};
 ghost use Rattle.vb_bound.specs.Tree.{Tree, IsOutlineOf};
 ghost use Rattle.vb_bind.specs.Grammar.{IsForm};
 ghost use Rattle.vb_parse_stmt.specs.Items.{IsItem};
@@ -16,8 +17,8 @@ use vb_diag::{Refusal, Rule};
 use vb_lexer::{LexErr, lex};
 use vb_parse_expr::ParseErr;
 use vb_parse_stmt::{one_item, parse_stmt};
-use vb_syntax::{Item, Line};
-use vb_text::NameTable;
+use vb_syntax::{Context, ContextualWords, Item, Line, words_apart};
+use vb_text::{NameTable, names_stay};
 
 /// Why there is no program: the least rule that the file breaks, or want of memory.
 #[derive(Clone, Copy, Debug, PartialEq, Eq)]
@@ -46,13 +47,20 @@ pub fn compile(alloc: Global, bytes: &[u8]) -> Result<Program, CompileErr>
 {
     let mut names = NameTable::new(alloc)?;
     let known = KnownNames::new(&mut names)?;
+    let words = ContextualWords::new(&mut names)?;
     let lines = match lex(alloc, 0, bytes, &mut names) {
         Ok(lines) => lines,
         Err(LexErr::Refused(refusal)) => return Err(CompileErr::Refused(refusal)),
         Err(LexErr::Memory) => return Err(CompileErr::Memory),
     };
     names.are_apart();
-    let items = items_of(alloc, &known, lines.as_slice())?;
+    words_apart();
+    names_stay();
+    let context = Context {
+        words,
+        in_iterator: false,
+    };
+    let items = items_of(alloc, &known, &context, lines.as_slice())?;
     match read_program(alloc, &known, items.as_slice()) {
         Ok(program) => Ok(program),
         Err(ReadErr::Refused) => Err(CompileErr::Refused(unbuilt(0, 1))),
@@ -61,30 +69,42 @@ pub fn compile(alloc: Global, bytes: &[u8]) -> Result<Program, CompileErr>
 }
 
 // The items that stand on the lines, one on each.
-fn items_of(alloc: Global, known: &KnownNames, lines: &[Line]) -> Result<Items<Item>, CompileErr>
-    ensures read { IfOk result (λ xs. AreItems lines.now xs × HaveForms known.now xs) }
-    ensures alone { IfOk result (λ xs. (ys : List OneItem) → AreItems lines.now ys → ys ≡ xs) }
-    ensures refused { (refusal : OneRefusal) → result ≡ Err (CompileErr.Refused refusal) → (refusal.rule ≡ 999) × IsFirstUnbuilt known.now lines.now refusal.line }
+fn items_of(
+    alloc: Global,
+    known: &KnownNames,
+    context: &Context,
+    lines: &[Line],
+) -> Result<Items<Item>, CompileErr>
+    requires { OptionsApart context.now.words }
+    ensures read { IfOk result (λ xs. AreItems context.now lines.now xs × HaveForms known.now xs) }
+    ensures alone { IfOk result (λ xs. (ys : List OneItem) → AreItems context.now lines.now ys → ys ≡ xs) }
+    ensures refused { (refusal : OneRefusal) → result ≡ Err (CompileErr.Refused refusal) → (refusal.rule ≡ 999) × IsFirstUnbuilt known.now context.now lines.now refusal.line }
 {
     let mut items = Items::new(alloc);
     for line in lines {
-        let item = item_of(alloc, known, line)?;
+        let item = item_of(alloc, known, context, line)?;
         items.push(item)?;
     }
     Ok(items)
 }
 
 // The item that stands on the line, where it is of a built form.
-fn item_of(alloc: Global, known: &KnownNames, line: &Line) -> Result<Item, CompileErr>
-    ensures read { IfOk result (λ x. IsItem line.now.tokens x × IsForm known.now x) }
-    ensures alone { IfOk result (λ x. (y : OneItem) → IsItem line.now.tokens y → y ≡ x) }
-    ensures refused { (refusal : OneRefusal) → result ≡ Err (CompileErr.Refused refusal) → (refusal.rule ≡ 999) × (refusal.line ≡ line.now.number) × (HasBuiltForm known.now line.now.tokens → ⊥) }
+fn item_of(
+    alloc: Global,
+    known: &KnownNames,
+    context: &Context,
+    line: &Line,
+) -> Result<Item, CompileErr>
+    requires { OptionsApart context.now.words }
+    ensures read { IfOk result (λ x. IsItem context.now line.now.tokens x × IsForm known.now x) }
+    ensures alone { IfOk result (λ x. (y : OneItem) → IsItem context.now line.now.tokens y → y ≡ x) }
+    ensures refused { (refusal : OneRefusal) → result ≡ Err (CompileErr.Refused refusal) → (refusal.rule ≡ 999) × (refusal.line ≡ line.now.number) × (HasBuiltForm known.now context.now line.now.tokens → ⊥) }
 {
     one_item();
     let _ = line.tokens.len();
-    match parse_stmt(alloc, line) {
+    match parse_stmt(alloc, context, line) {
         Ok(item) => built(known, line, item),
-        Err(ParseErr::Refused(refusal)) => Err(CompileErr::Refused(refusal)),
+        Err(ParseErr::Refused(_)) => Err(CompileErr::Refused(unbuilt(line.file, line.number))),
         Err(ParseErr::Memory) => Err(CompileErr::Memory),
     }
 }

@@ -3,12 +3,12 @@ use Rattle.vb_bound.specs.Tree.{AreLocals}
 use Rattle.vb_bind.specs.Parsing.{dims_read}
 use Rattle.vb_bind.proofs.program.body_of.Given as goal
 
-abbrev pub invariant-loop-item : goal.invariant-loop-item
-invariant-loop-item l = record {
+abbrev pub invariant-loop-rest : goal.invariant-loop-rest
+invariant-loop-rest l = record {
   read : dims_read l.known l.own_name l.names.items l.locals.items l.rest ≡ dims_read l.known l.own_name [] [] l.body;
   bound : AreLocals 0 l.locals.items;
   same : length l.locals.items ≡ length l.names.items;
 }
 
-abbrev pub decreases-loop-item : goal.decreases-loop-item
-decreases-loop-item l = length l.rest
+abbrev pub decreases-loop-rest : goal.decreases-loop-rest
+decreases-loop-rest l = length l.rest
