@@ -13,7 +13,7 @@ work=$(mktemp -d)
 trap 'rm -rf "$work"' EXIT
 cd "$work" || exit 1
 
-for name in vb_text vb_diag vb_syntax vb_lexer vb_parse_expr vb_parse_stmt; do
+for name in vb_text vb_diag vb_syntax vb_lexer vb_parse_expr vb_parse_decl vb_parse_stmt; do
     mkdir -p "crates/$name"
     for part in src specs proofs; do
         [ ! -d "$here/crates/$name/$part" ] || cp -r "$here/crates/$name/$part" "crates/$name/"
@@ -34,13 +34,13 @@ use std::fs;
 use std::time::Instant;
 use vb_lexer::lex;
 use vb_parse_stmt::parse_stmt;
-use vb_syntax::{Item, Line};
+use vb_syntax::{Context, ContextualWords, Item, Line};
 use vb_text::NameTable;
 
-fn items_of(alloc: Global, lines: &[Line]) -> Items<Item> {
+fn items_of(alloc: Global, context: &Context, lines: &[Line]) -> Items<Item> {
     let mut items = Items::new(alloc);
     for line in lines {
-        if let Ok(item) = parse_stmt(alloc, line) {
+        if let Ok(item) = parse_stmt(alloc, context, line) {
             let _ = items.push(item);
         }
     }
@@ -58,11 +58,15 @@ fn main(rt: HostRuntime) -> Result<()> {
     let mut count = 0;
     for _ in 0..10 {
         let mut names = NameTable::new(rt.alloc())?;
+        let context = Context {
+            words: ContextualWords::new(&mut names)?,
+            in_iterator: false,
+        };
         let start = Instant::now(&rt)?;
         let answer = lex(rt.alloc(), 0, &bytes, &mut names);
         match answer {
             Ok(lines) => {
-                let items = items_of(rt.alloc(), lines.as_slice());
+                let items = items_of(rt.alloc(), &context, lines.as_slice());
                 count = items.len();
                 ensure!(count == lines.len(), "a line is no item");
             }
@@ -99,6 +103,7 @@ def number(most):
     return random.randint(0, most)
 
 forms = [
+    lambda: f"    Public Shared Function {n()}(ByVal {n()} As String, ByRef {n()} As Long) As Boolean",
     lambda: f"        Dim {n()} As Integer = {number(100000)}",
     lambda: f"        {n()} = {n()} + {n()} * {number(99)} - &H{number(65535):X}",
     lambda: f'        Console.WriteLine("the {n()} is " & {n()} & " of {number(999)}")',
@@ -109,6 +114,10 @@ forms = [
     lambda: f"                , {n()})",
     lambda: f"            {n()} = New {n()}.{n()}({n()}, If({n()}, CInt({n()}), {number(9)}))",
     lambda: "        End While",
+    lambda: f"        For {n()} As Integer = 0 To {n()}.{n()}({n()}, {n()}) - 1",
+    lambda: f"        Next {n()}",
+    lambda: f"        Return {n()} AndAlso {n()} < {number(9)}",
+    lambda: "    End Function",
     lambda: "",
 ]
 lines = []
@@ -128,7 +137,11 @@ PY
 times=()
 for megabytes in 1 4; do
     source_of $((megabytes * 1048576)) source.vb || exit 1
-    read -r micros lines < <(/usr/bin/time -f %M -o peak "$program" source.vb)
+    read -r micros lines < <(python3 -c '
+import resource, subprocess, sys
+subprocess.run(sys.argv[1:], check=True)
+print(resource.getrusage(resource.RUSAGE_CHILDREN).ru_maxrss, file=open("peak", "w"))
+' "$program" source.vb)
     times+=("$micros")
     echo "$megabytes MB, $lines logical lines: $micros us, $(python3 -c "print(round($megabytes * 1048576 / $micros, 1))") MB a second, peak $(python3 -c "print(round($(cat peak) / 1024 / $megabytes, 1))") times the source"
 done
