@@ -1,5 +1,5 @@
 -- With which tokens expressions, types and new objects begin.
-use Rattle.std.proofs.Common.{◌≡◌, ◌⊎◌, inl, inr, ℕ, Bool, true, false, List, [], ◌∷◌, ◌++◌, length, take, drop, Option, Some, None, refl, sym, ap, subst, ◌∙◌, arith}
+use Rattle.std.proofs.Common.{◌≡◌, ◌⊎◌, inl, inr, ℕ, Bool, true, false, List, [], ◌∷◌, ◌++◌, length, take, drop, Some, refl, sym, ap, ◌∙◌}
 use Rattle.std.specs.Option.{is_some}
 use Rattle.std.proofs.lemmas.List.{take-append-drop}
 use Rattle.vb_text.specs.declared.names.Name.{Name}
@@ -16,7 +16,7 @@ use Rattle.vb_parse_expr.specs.Words.{opening, closing, name_of, type_of, word_a
 use Rattle.vb_parse_expr.specs.Types.{SpellsNames, SpellsType, SpellsSimpleType}
 use Rattle.vb_parse_expr.specs.Expressions.{Edge, Spells, SpellsPrimary}
 use Rattle.vb_parse_expr.specs.Fronts.{IsPrimaryFront, begins_primary}
-use Rattle.vb_parse_decl.specs.Parts.{IsExpression, IsPrimary, IsType}
+use Rattle.vb_parse_decl.specs.Parts.{IsPrimary, IsType}
 use Rattle.vb_parse_decl.specs.Declarators.{IsBound}
 use Rattle.vb_parse_decl.specs.DeclaredReading.{IsPartAt, anything, begins_array, begins_new}
 use Rattle.vb_parse_decl.proofs.Wholes.{primary_front}

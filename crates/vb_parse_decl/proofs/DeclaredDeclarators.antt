@@ -1,6 +1,6 @@
 -- Declarators: names and what stands behind `As`, or a name and its value.
-use Rattle.std.proofs.Common.{◌≡◌, ℕ, ◌+◌, ◌-◌, ◌≤◌, ◌<◌, Bool, true, false, List, [], ◌∷◌, ◌++◌, length, take, drop, Option, Some, None, refl, sym, ap, subst, ◌∙◌, arith, append_assoc, length-append, length-drop}
-use Rattle.std.proofs.Math.Seq.{take-append_seam, drop-append_seam, drop-length}
+use Rattle.std.proofs.Common.{◌≡◌, ℕ, ◌+◌, ◌-◌, ◌≤◌, ◌<◌, Bool, true, false, List, ◌∷◌, ◌++◌, length, take, drop, Option, Some, None, refl, sym, ap, subst, ◌∙◌, arith, append_assoc, length-append, length-drop}
+use Rattle.std.proofs.Math.Seq.{drop-append_seam, drop-length}
 use Rattle.std.proofs.lemmas.Bool.{both_ways}
 use Rattle.std.proofs.lemmas.List.{take-append-drop, drop-drop, length-take-le}
 use Rattle.vb_text.specs.declared.names.Name.{Name}
@@ -16,7 +16,7 @@ use Rattle.vb_syntax.specs.declared.declarator.Declarator.{Declarator}
 use Rattle.vb_syntax.specs.declared.declarator.Declarator.TheVariants as declarator
 use Rattle.vb_syntax.specs.declared.declarator.VariableIdentifier.{VariableIdentifier}
 use Rattle.vb_parse_expr.specs.TypeReading.{most_tokens}
-use Rattle.vb_parse_expr.specs.Words.{comma, name_of}
+use Rattle.vb_parse_expr.specs.Words.{name_of}
 use Rattle.vb_parse_expr.specs.Types.{IsTypeFront}
 use Rattle.vb_parse_expr.specs.Fronts.{IsFront, IsPrimaryFront, IsInitializerFront}
 use Rattle.vb_parse_decl.specs.Parts.{reserved, equal, IsExpression, IsType, IsParted, AreListed}
@@ -24,9 +24,9 @@ use Rattle.vb_parse_decl.specs.Declarators.{IsIdentifier, IsInitialized, IsNew, 
 use Rattle.vb_parse_decl.specs.DeclaredReading.{IsPartAt, IsTyped, is_as, is_over, is_end, ends_identifier, begins_new, inferred_name}
 use Rattle.vb_parse_decl.proofs.Refusals.{OneFront}
 use Rattle.vb_parse_decl.proofs.DeclaredParts.{OnePart, part_before, part_whole, one_front, one_part, one_expression, dropped_small, dropped_to, next_dropped, inside}
-use Rattle.vb_parse_decl.proofs.DeclaredLists.{ListEnds, one_list, first_of_list}
+use Rattle.vb_parse_decl.proofs.DeclaredLists.{one_list, first_of_list}
 use Rattle.vb_parse_decl.proofs.DeclaredBegins.{PrimaryBegins, no_new_type, new_begins}
-use Rattle.vb_parse_decl.proofs.DeclaredNames.{one_identifier, identifier_ends, declarator_ends, inferred_no_identifier, cons_part}
+use Rattle.vb_parse_decl.proofs.DeclaredNames.{one_identifier, identifier_ends, declarator_ends, inferred_no_identifier}
 use Rattle.vb_parse_decl.proofs.DeclaredValues.{over_ends, one_new, one_typed}
 
 -- the laws of callees

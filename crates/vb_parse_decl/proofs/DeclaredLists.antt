@@ -1,6 +1,6 @@
 -- Parts with commas between them: how the list of them is read from left to right.
-use Rattle.std.proofs.Common.{◌≡◌, ◌⊎◌, inl, inr, ℕ, ◌+◌, ◌-◌, ◌≤◌, ◌<◌, Bool, true, false, List, [], ◌∷◌, ◌++◌, length, take, drop, refl, sym, ap, subst, ◌∙◌, arith, append_assoc, length-append, length-drop}
-use Rattle.std.proofs.Math.Seq.{take-append_seam, drop-append_seam, take-length, drop-length}
+use Rattle.std.proofs.Common.{◌≡◌, ◌⊎◌, inl, inr, ℕ, ◌+◌, ◌-◌, ◌≤◌, Bool, true, false, List, [], ◌∷◌, ◌++◌, length, take, drop, refl, sym, ap, subst, ◌∙◌, arith, append_assoc, length-append, length-drop}
+use Rattle.std.proofs.Math.Seq.{drop-append_seam}
 use Rattle.std.proofs.lemmas.List.{take-append-drop, drop-drop, length-take-le}
 use Rattle.vb_syntax.specs.declared.tokens.Token.{Token}
 use Rattle.vb_parse_expr.specs.TypeReading.{most_tokens}
@@ -8,7 +8,6 @@ use Rattle.vb_parse_expr.specs.Words.{comma}
 use Rattle.vb_parse_decl.specs.Parts.{AreListed}
 use Rattle.vb_parse_decl.specs.Parts.AreListed.{one, more}
 use Rattle.vb_parse_decl.specs.DeclaredReading.{IsPartAt}
-use Rattle.vb_parse_decl.proofs.Refusals.{OneFront}
 use Rattle.vb_parse_decl.proofs.DeclaredParts.{OnePart, part_before, one_front, inside}
 
 -- a comma ends a part, and not the list; what ends the list ends a part

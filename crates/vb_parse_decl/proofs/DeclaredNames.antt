@@ -1,5 +1,5 @@
 -- The names that a declarator declares, with what may stand behind each.
-use Rattle.std.proofs.Common.{◌≡◌, ℕ, ◌+◌, ◌-◌, ◌≤◌, ◌<◌, Bool, true, false, List, [], ◌∷◌, ◌++◌, length, take, drop, Option, Some, None, refl, sym, ap, subst, ◌∙◌, arith, length-append, length-drop}
+use Rattle.std.proofs.Common.{◌≡◌, ℕ, ◌+◌, ◌-◌, ◌≤◌, ◌<◌, Bool, true, false, List, [], ◌∷◌, ◌++◌, length, take, drop, Some, None, refl, sym, ap, subst, ◌∙◌, arith, length-drop}
 use Rattle.std.proofs.lemmas.List.{take-append-drop, drop-drop, length-take-le}
 use Rattle.vb_text.specs.declared.names.Name.{Name}
 use Rattle.vb_syntax.specs.declared.keyword.Keyword.TheVariants as word

@@ -1,13 +1,11 @@
 -- The last name of a type, by the form of the type.
-use Rattle.std.proofs.Common.{◌≡◌, None, Option, refl, ap, sym, ◌∙◌}
-use Rattle.vb_text.specs.declared.names.Name.{Name}
+use Rattle.std.proofs.Common.{◌≡◌, None, refl, ap, sym, ◌∙◌}
 use Rattle.vb_syntax.specs.declared.types.BuiltInTypeName.{BuiltInTypeName}
 use Rattle.vb_syntax.specs.declared.types.QualifiedTypeName.{QualifiedTypeName}
-use Rattle.vb_syntax.specs.declared.types.SimpleTypeName.{SimpleTypeName, out-SimpleTypeName, roll-SimpleTypeName, out-roll-SimpleTypeName}
+use Rattle.vb_syntax.specs.declared.types.SimpleTypeName.{SimpleTypeName, out-roll-SimpleTypeName}
 use Rattle.vb_syntax.specs.declared.types.SimpleTypeName.TheOpen.{SimpleTypeName-F}
 use Rattle.vb_syntax.specs.declared.types.SimpleTypeName.TheVariants.{rolls-BuiltIn, rolls-Qualified}
 use Rattle.vb_syntax.specs.declared.types.SimpleTypeName.TheVariants as simple
-use Rattle.vb_syntax.specs.declared.types.TypeName.{TypeName}
 use Rattle.vb_syntax.specs.declared.types.TypeName.TheVariants as type_name
 use Rattle.vb_parse_expr.specs.TypeReading.{popped}
 use Rattle.vb_parse_decl.specs.MemberReading.{last_name, member_of_simple, member_of}

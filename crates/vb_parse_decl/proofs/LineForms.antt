@@ -1,5 +1,5 @@
 -- What stands behind the modifiers of a line tells which of its forms the line is.
-use Rattle.std.proofs.Common.{◌≡◌, ◌⊎◌, inl, inr, ℕ, ◌+◌, ◌-◌, ◌≤◌, ◌<◌, Bool, true, false, List, [], ◌∷◌, ◌++◌, length, drop, Option, Some, None, refl, sym, ap, subst, ◌∙◌, append_assoc, append-nil, arith, length-append}
+use Rattle.std.proofs.Common.{◌≡◌, ◌⊎◌, inl, inr, ℕ, ◌+◌, ◌-◌, ◌≤◌, Bool, true, false, List, [], ◌∷◌, ◌++◌, length, drop, Option, Some, None, refl, sym, ap, subst, ◌∙◌, append_assoc, append-nil, arith, length-append}
 use Rattle.std.specs.Prelude.{if◌then◌else◌}
 use Rattle.std.proofs.Math.Seq.{drop-append_seam}
 use Rattle.std.proofs.lemmas.Bool.{both_ways}
@@ -22,16 +22,14 @@ use Rattle.vb_syntax.specs.declared.declaration.PropertyKind.TheVariants as prop
 use Rattle.vb_syntax.specs.declared.item.DeclarationLine.{DeclarationLine}
 use Rattle.vb_syntax.specs.declared.item.DeclarationLine.TheVariants as line
 use Rattle.vb_syntax.specs.declared.item.EventAccessorKind.TheVariants as accessor
-use Rattle.vb_syntax.specs.declared.item.PropertyHeader.{PropertyHeader}
 use Rattle.vb_syntax.specs.declared.words.ContextualWords.{ContextualWords}
-use Rattle.vb_parse_expr.specs.TypeReading.{Read, most_tokens}
-use Rattle.vb_parse_expr.specs.Words.{opening, closing, comma, name_of}
+use Rattle.vb_parse_expr.specs.Words.{comma, name_of}
 use Rattle.vb_parse_decl.specs.Parts.{reserved, equal, Begins, Words, IsParted, AreListed}
 use Rattle.vb_parse_decl.specs.Declarators.{IsModified, IsIdentifier, IsDeclarator}
 use Rattle.vb_parse_decl.specs.Declarations.{modifier_words, Modified}
 use Rattle.vb_parse_decl.specs.DeclarationLines.{modifiers_of, property_words, IsProperty, Behind, IsDeclarationLine}
-use Rattle.vb_parse_decl.specs.ModifierReading.{word_modifier, modifier_before, after_protected_friend, first_word, first_modifier, read_modifiers}
-use Rattle.vb_parse_decl.specs.LineReading.{begins_member, variables_at, begins_constants, read_header}
+use Rattle.vb_parse_decl.specs.ModifierReading.{after_protected_friend, first_word, first_modifier, read_modifiers}
+use Rattle.vb_parse_decl.specs.LineReading.{begins_member, variables_at, begins_constants}
 use Rattle.vb_parse_decl.proofs.ReadersModifiers.{AreRead, are_read, are_found}
 use Rattle.vb_parse_decl.proofs.LinesRead.{IsHeaderLine}
 

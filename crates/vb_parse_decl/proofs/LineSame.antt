@@ -1,5 +1,5 @@
 -- A line declares one thing at most.
-use Rattle.std.proofs.Common.{◌≡◌, ℕ, ◌+◌, ◌≤◌, Bool, true, false, List, [], length, drop, Option, Some, None, refl, sym, ap, subst, ◌∙◌, arith, length-drop}
+use Rattle.std.proofs.Common.{◌≡◌, ℕ, ◌≤◌, Bool, true, false, List, length, drop, Option, Some, None, refl, sym, ap, ◌∙◌, arith, length-drop}
 use Rattle.vb_syntax.specs.declared.tokens.Token.{Token}
 use Rattle.vb_syntax.specs.declared.declarator.Declarator.{Declarator}
 use Rattle.vb_syntax.specs.declared.declaration.Modifier.{Modifier}
@@ -9,7 +9,7 @@ use Rattle.vb_syntax.specs.declared.words.ContextualWords.{ContextualWords}
 use Rattle.vb_parse_expr.specs.TypeReading.{most_tokens}
 use Rattle.vb_parse_decl.specs.Parts.{AreListed}
 use Rattle.vb_parse_decl.specs.Declarators.{IsDeclarator}
-use Rattle.vb_parse_decl.specs.DeclarationLines.{modifiers_of, Behind, IsDeclarationLine}
+use Rattle.vb_parse_decl.specs.DeclarationLines.{modifiers_of, IsDeclarationLine}
 use Rattle.vb_parse_decl.specs.LineReading.{variables_at, begins_constants, read_header}
 use Rattle.vb_parse_decl.proofs.DeclaredDeclarators.{Readings, declarators_same}
 use Rattle.vb_parse_decl.proofs.Readers.{some_same}

@@ -1,5 +1,5 @@
 -- What is told of a line, by what is read behind its modifiers.
-use Rattle.std.proofs.Common.{◌≡◌, ◌⊎◌, inl, inr, ℕ, ◌+◌, ◌-◌, ◌≤◌, Bool, true, false, List, [], ◌∷◌, length, drop, Option, Some, None, refl, sym, ap, subst, ◌∙◌, arith, length-drop}
+use Rattle.std.proofs.Common.{◌≡◌, ◌⊎◌, inl, inr, ℕ, ◌+◌, ◌-◌, ◌≤◌, Bool, true, false, List, [], ◌∷◌, length, drop, Some, None, refl, sym, ap, subst, ◌∙◌, arith}
 use Rattle.std.specs.Prelude.{if◌then◌else◌}
 use Rattle.std.proofs.lemmas.List.{drop-drop}
 use Rattle.vb_syntax.specs.declared.keyword.Keyword.TheVariants as word
@@ -13,7 +13,7 @@ use Rattle.vb_syntax.specs.declared.words.ContextualWords.{ContextualWords}
 use Rattle.vb_parse_expr.specs.TypeReading.{most_tokens}
 use Rattle.vb_parse_decl.specs.Parts.{reserved, AreListed}
 use Rattle.vb_parse_decl.specs.Declarators.{IsDeclarator}
-use Rattle.vb_parse_decl.specs.DeclarationLines.{modifiers_of, Behind, IsDeclarationLine}
+use Rattle.vb_parse_decl.specs.DeclarationLines.{Behind, IsDeclarationLine}
 use Rattle.vb_parse_decl.specs.ModifierReading.{read_modifiers}
 use Rattle.vb_parse_decl.specs.LineReading.{begins_member, variables_at, begins_constants, read_header, IsAfterModifiers}
 use Rattle.vb_parse_decl.proofs.LinesFound.{header_stands}

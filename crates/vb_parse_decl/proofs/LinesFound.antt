@@ -1,5 +1,5 @@
 -- What is read behind the modifiers of a line stands there.
-use Rattle.std.proofs.Common.{◌≡◌, ◌⊎◌, inl, inr, ℕ, Bool, true, false, List, [], ◌∷◌, ◌++◌, Option, Some, None, refl, sym, ap, subst, ◌∙◌, append-nil, arith, length, length-append}
+use Rattle.std.proofs.Common.{◌≡◌, ℕ, Bool, true, false, List, [], ◌∷◌, ◌++◌, Option, Some, None, refl, sym, ap, subst, ◌∙◌, arith, length, length-append}
 use Rattle.std.specs.Prelude.{◌==◌, if◌then◌else◌}
 use Rattle.std.proofs.lemmas.Bool.{eqb-true}
 use Rattle.vb_text.specs.declared.names.Name.{Name}
@@ -28,16 +28,16 @@ use Rattle.vb_syntax.specs.declared.item.EventAccessorKind.{EventAccessorKind}
 use Rattle.vb_syntax.specs.declared.item.EventAccessorKind.TheVariants as accessor
 use Rattle.vb_syntax.specs.declared.item.PropertyHeader.{PropertyHeader}
 use Rattle.vb_syntax.specs.declared.words.ContextualWords.{ContextualWords}
-use Rattle.vb_parse_expr.specs.TypeReading.{Read, and_then, read_name, read_type, popped}
+use Rattle.vb_parse_expr.specs.TypeReading.{and_then, read_name, read_type, popped}
 use Rattle.vb_parse_expr.proofs.Lists.{popped_append}
-use Rattle.vb_parse_expr.proofs.TypeNames.{then_some, parts_of, name_first}
-use Rattle.vb_parse_decl.specs.Parts.{reserved, IsType, IsNamed, Begins, Names, Words, Part, AreListed}
+use Rattle.vb_parse_expr.proofs.TypeNames.{then_some, name_first}
+use Rattle.vb_parse_decl.specs.Parts.{reserved, IsType, Names, Words, Part, AreListed}
 use Rattle.vb_parse_decl.specs.Declarations.{AreTypeParameters, IsNameModifier, IsDeclared, AreWritten, AreParameters, Signed, IsResult, IsHandler, IsInitial, AreImplemented}
-use Rattle.vb_parse_decl.specs.DeclarationLines.{access_modifiers, property_modifiers, EndsReadOnly, modifiers_of, delegate_word, property_words, accessor_word, IsFunction, IsProperty, Behind}
+use Rattle.vb_parse_decl.specs.DeclarationLines.{access_modifiers, property_modifiers, EndsReadOnly, modifiers_of, delegate_word, property_words, accessor_word, IsProperty, Behind}
 use Rattle.vb_parse_decl.specs.DeclarationReading.{read_list, name_modifier_of, read_declared, read_written, read_parameters, read_type_parameters, read_signature, read_result}
 use Rattle.vb_parse_decl.specs.ModifierReading.{only_access, kind_split, last_split, property_split}
 use Rattle.vb_parse_decl.specs.LineReading.{ended, given, last_implements, read_module, read_class, read_interface, read_delegate, last_types, read_inherits, read_implements_line, read_sub, read_constructor, read_function, read_initial, property_header, property_named, read_property, property_of, read_handler, read_event, read_custom_event, read_get, read_set, read_accessor, class_behind, delegate_behind, sub_behind, write_only_behind, property_behind, by_access, by_word, by_name, read_header}
-use Rattle.vb_parse_decl.proofs.Readers.{Reads, read_part, read_names, some_same}
+use Rattle.vb_parse_decl.proofs.Readers.{read_part, read_names, some_same}
 use Rattle.vb_parse_decl.proofs.ReadersLists.{EndsList}
 use Rattle.vb_parse_decl.proofs.ReadersTypes.{Stops, types_reads}
 use Rattle.vb_parse_decl.proofs.ReadersParameters.{NoTypeParameters, NoParameters, Anything, type_parameters_reads, declared_reads, written_reads, parameters_reads, modifier_found}

@@ -1,16 +1,13 @@
 -- What stands behind the modifiers of a line is read.
-use Rattle.std.proofs.Common.{◌≡◌, ◌⊎◌, inl, inr, ℕ, ◌+◌, ◌≤◌, Bool, true, false, List, [], ◌∷◌, ◌++◌, length, Option, Some, None, refl, sym, ap, subst, ◌∙◌, append-nil, arith, length-append}
-use Rattle.std.specs.Prelude.{◌==◌, if◌then◌else◌}
+use Rattle.std.proofs.Common.{◌≡◌, ◌≤◌, List, [], ◌∷◌, ◌++◌, length, Option, Some, None, refl, sym, ap, ◌∙◌, arith, length-append}
+use Rattle.std.specs.Prelude.{if◌then◌else◌}
 use Rattle.std.proofs.Common.{eq-eqb}
 use Rattle.vb_text.specs.declared.names.Name.{Name}
-use Rattle.vb_syntax.specs.declared.keyword.Keyword.{Keyword}
 use Rattle.vb_syntax.specs.declared.keyword.Keyword.TheVariants as word
 use Rattle.vb_syntax.specs.declared.tokens.Token.{Token}
 use Rattle.vb_syntax.specs.declared.tokens.Token.TheVariants as token
 use Rattle.vb_syntax.specs.declared.types.TypeName.{TypeName}
 use Rattle.vb_syntax.specs.declared.types.TypeParameter.{TypeParameter}
-use Rattle.vb_syntax.specs.declared.declarator.Declarator.{Declarator}
-use Rattle.vb_syntax.specs.declared.expression.Expr.{Expr}
 use Rattle.vb_syntax.specs.declared.declaration.Access.{Access}
 use Rattle.vb_syntax.specs.declared.declaration.ClassModifier.{ClassModifier}
 use Rattle.vb_syntax.specs.declared.declaration.ClassModifier.TheVariants as class_modifier
@@ -23,7 +20,6 @@ use Rattle.vb_syntax.specs.declared.declaration.ImplementedMember.{ImplementedMe
 use Rattle.vb_syntax.specs.declared.declaration.MethodSignature.{MethodSignature}
 use Rattle.vb_syntax.specs.declared.declaration.Modifier.{Modifier}
 use Rattle.vb_syntax.specs.declared.declaration.Modifier.TheVariants as modifier
-use Rattle.vb_syntax.specs.declared.declaration.NameModifier.{NameModifier}
 use Rattle.vb_syntax.specs.declared.declaration.Parameter.{Parameter}
 use Rattle.vb_syntax.specs.declared.declaration.PropertyKind.{PropertyKind}
 use Rattle.vb_syntax.specs.declared.declaration.PropertyKind.TheVariants as property
@@ -34,16 +30,16 @@ use Rattle.vb_syntax.specs.declared.item.EventAccessorKind.TheVariants as access
 use Rattle.vb_syntax.specs.declared.item.PropertyHeader.{PropertyHeader}
 use Rattle.vb_syntax.specs.declared.words.ContextualWords.{ContextualWords}
 use Rattle.vb_parse_expr.specs.Words.{name_of}
-use Rattle.vb_parse_expr.specs.TypeReading.{Read, and_then, read_name, read_type, after_opening_of, popped, most_tokens}
+use Rattle.vb_parse_expr.specs.TypeReading.{and_then, read_name, read_type, after_opening_of, popped, most_tokens}
 use Rattle.vb_parse_expr.specs.Reading.{after_opening}
 use Rattle.vb_parse_expr.proofs.Lists.{popped_append}
-use Rattle.vb_parse_decl.specs.Parts.{reserved, IsType, IsNamed, Begins, Names, Words, Part, AreListed}
+use Rattle.vb_parse_decl.specs.Parts.{reserved, IsType, IsNamed, Names, Words, Part, AreListed}
 use Rattle.vb_parse_decl.specs.Declarations.{AreTypeParameters, IsNameModifier, IsDeclared, AreWritten, AreParameters, Signed, IsResult, IsHandler, IsInitial, AreImplemented}
-use Rattle.vb_parse_decl.specs.DeclarationLines.{access_modifiers, property_modifiers, EndsReadOnly, modifiers_of, delegate_word, property_words, accessor_word, IsFunction, IsProperty, Behind}
+use Rattle.vb_parse_decl.specs.DeclarationLines.{access_modifiers, property_modifiers, EndsReadOnly, modifiers_of, delegate_word, property_words, accessor_word, IsProperty, Behind}
 use Rattle.vb_parse_decl.specs.DeclarationReading.{read_list, name_modifier_of, read_declared, read_written, read_parameters, read_type_parameters, read_signature, read_result}
 use Rattle.vb_parse_decl.specs.ModifierReading.{only_access, kind_split, last_split, property_split}
 use Rattle.vb_parse_decl.specs.LineReading.{ended, given, last_implements, read_module, read_class, read_interface, read_delegate, last_types, read_inherits, read_implements_line, read_sub, read_constructor, read_function, read_initial, property_header, property_named, read_property, property_of, read_handler, read_event, read_custom_event, read_get, read_set, read_accessor, class_behind, delegate_behind, sub_behind, write_only_behind, property_behind, by_access, by_word, by_name, read_header}
-use Rattle.vb_parse_decl.proofs.Readers.{Reads, Found, part_read, name_read, then_is, some_same}
+use Rattle.vb_parse_decl.proofs.Readers.{part_read, name_read, then_is}
 use Rattle.vb_parse_decl.proofs.ReadersLists.{EndsList}
 use Rattle.vb_parse_decl.proofs.ReadersTypes.{Stops, types_reads}
 use Rattle.vb_parse_decl.proofs.ReadersParameters.{NoTypeParameters, NoParameters, Anything, type_parameters_reads, declared_reads, written_reads, parameters_reads, modifier_finds}

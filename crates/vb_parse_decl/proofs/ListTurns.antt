@@ -1,5 +1,5 @@
 -- One turn of the loop that reads a list.
-use Rattle.std.proofs.Common.{◌≡◌, ℕ, zero, suc, ◌+◌, ◌-◌, ◌≤◌, ◌<◌, List, [], ◌∷◌, ◌++◌, Option, Some, None, refl, ap, ◌∙◌, arith}
+use Rattle.std.proofs.Common.{◌≡◌, ℕ, zero, suc, ◌+◌, ◌-◌, ◌≤◌, ◌<◌, List, [], ◌∷◌, ◌++◌, Some, None, ap, ◌∙◌, arith}
 use Rattle.vb_syntax.specs.declared.tokens.Token.{Token}
 use Rattle.vb_parse_expr.specs.Reading.{after_comma}
 use Rattle.vb_parse_expr.specs.TypeReading.{Read, and_then}

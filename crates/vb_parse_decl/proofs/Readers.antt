@@ -1,10 +1,9 @@
 -- Readers of parts: what they find is spelled before the rest, and they find what is spelled there.
-use Rattle.std.proofs.Common.{◌≡◌, ℕ, zero, suc, ◌+◌, ◌≤◌, ◌<◌, List, [], ◌∷◌, ◌++◌, length, Option, Some, None, refl, sym, ap, subst, ◌∙◌, arith, append_assoc, length-append}
+use Rattle.std.proofs.Common.{◌≡◌, ◌≤◌, List, ◌++◌, length, Option, Some, None, refl, ap, ◌∙◌, arith, length-append}
 use Rattle.vb_text.specs.declared.names.Name.{Name}
 use Rattle.vb_syntax.specs.declared.tokens.Token.{Token}
 use Rattle.vb_parse_expr.specs.TypeReading.{Read, and_then, behind, read_name, most_tokens}
-use Rattle.vb_parse_expr.specs.Words.{name_of}
-use Rattle.vb_parse_expr.proofs.TypeNames.{then_some, parts_of, name_first, read_named}
+use Rattle.vb_parse_expr.proofs.TypeNames.{name_first, read_named}
 use Rattle.vb_parse_decl.specs.Parts.{Names, Part}
 
 -- ONE READING AFTER ANOTHER

@@ -1,5 +1,5 @@
 -- Implemented members are read as they are spelled.
-use Rattle.std.proofs.Common.{◌≡◌, ◌⊎◌, inl, inr, ℕ, ◌+◌, ◌≤◌, ◌<◌, Bool, true, false, List, [], ◌∷◌, ◌++◌, length, Option, Some, None, refl, sym, ap, subst, ◌∙◌, arith, append_assoc, append-nil, length-append}
+use Rattle.std.proofs.Common.{◌≡◌, inl, inr, ◌≤◌, ◌<◌, Bool, true, List, [], ◌∷◌, ◌++◌, length, Option, Some, None, refl, sym, ap, subst, ◌∙◌, arith, append_assoc, append-nil, length-append}
 use Rattle.vb_text.specs.declared.names.Name.{Name}
 use Rattle.vb_syntax.specs.declared.keyword.Keyword.TheVariants as word
 use Rattle.vb_syntax.specs.declared.symbol.Symbol.TheVariants as sign
@@ -10,9 +10,9 @@ use Rattle.vb_syntax.specs.declared.types.TypeName.{TypeName}
 use Rattle.vb_syntax.specs.declared.types.TypeName.TheVariants as type_name
 use Rattle.vb_syntax.specs.declared.declaration.ImplementedMember.{ImplementedMember}
 use Rattle.vb_parse_expr.specs.Reading.{after_dot, after_comma}
-use Rattle.vb_parse_expr.specs.TypeReading.{Read, and_then, read_name, read_type, popped, popped_behind, most_tokens}
-use Rattle.vb_parse_expr.specs.Types.{SpellsNames, SpellsType, SpellsSimpleType, SpellsTypeArguments, SpellsTypes, goes_on_type, qualified_by}
-use Rattle.vb_parse_expr.specs.Words.{comma, dot, name_of}
+use Rattle.vb_parse_expr.specs.TypeReading.{Read, read_name, read_type, popped, popped_behind, most_tokens}
+use Rattle.vb_parse_expr.specs.Types.{SpellsNames, SpellsType, SpellsSimpleType, SpellsTypeArguments, SpellsTypes, qualified_by}
+use Rattle.vb_parse_expr.specs.Words.{dot, name_of}
 use Rattle.vb_parse_expr.proofs.Lists.{popped_append}
 use Rattle.vb_parse_expr.proofs.TypeAhead.{dot_first}
 use Rattle.vb_parse_expr.proofs.TypeFronts.{type_read}
@@ -25,7 +25,7 @@ use Rattle.vb_parse_decl.specs.MemberReading.{named_before, last_name, member_of
 use Rattle.vb_parse_decl.proofs.LastNames.{qualified_member, built_in_member, array_member, simple_member}
 use Rattle.vb_parse_decl.proofs.Readers.{Reads, then_is, some_same}
 use Rattle.vb_parse_decl.proofs.ReadersLists.{ends_part, EndsPart, EndsList, list_reads}
-use Rattle.vb_parse_decl.proofs.ReadersTypes.{stops, ends_stops, type_over, type_reads}
+use Rattle.vb_parse_decl.proofs.ReadersTypes.{ends_stops, type_reads}
 
 -- THE LAST OF SOME NAMES
 

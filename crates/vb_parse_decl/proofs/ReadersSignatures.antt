@@ -1,5 +1,5 @@
 -- Signatures, results, handlers and first values are read as they are spelled.
-use Rattle.std.proofs.Common.{◌≡◌, ◌⊎◌, inl, inr, ℕ, ◌+◌, ◌≤◌, ◌<◌, Bool, true, false, List, [], ◌∷◌, ◌++◌, length, Option, Some, None, refl, sym, ap, subst, ◌∙◌, arith, append_assoc, append-nil, length-append}
+use Rattle.std.proofs.Common.{◌≡◌, inl, inr, ◌≤◌, true, false, List, [], ◌∷◌, ◌++◌, length, Option, Some, None, refl, sym, ap, subst, ◌∙◌, arith}
 use Rattle.vb_text.specs.declared.names.Name.{Name}
 use Rattle.vb_syntax.specs.declared.keyword.Keyword.{Keyword}
 use Rattle.vb_syntax.specs.declared.keyword.Keyword.TheVariants as word
@@ -19,15 +19,14 @@ use Rattle.vb_parse_expr.specs.TypeReading.{Read, and_then, read_name, read_type
 use Rattle.vb_parse_expr.specs.Placing.{read_expression}
 use Rattle.vb_parse_expr.specs.Words.{opening, closing}
 use Rattle.vb_parse_expr.specs.Fronts.{goes_on}
-use Rattle.vb_parse_expr.proofs.TypeAhead.{opening_first}
 use Rattle.vb_parse_expr.proofs.TypeNames.{then_some, parts_of}
-use Rattle.vb_parse_decl.specs.Parts.{reserved, equal, IsExpression, IsType, After, Begins, Names, Part}
-use Rattle.vb_parse_decl.specs.Declarations.{AreTypeParameters, IsDeclared, AreWritten, AreParameters, Signed, IsResult, IsHandler, IsInitial, AreImplemented}
+use Rattle.vb_parse_decl.specs.Parts.{reserved, equal, IsType, Part}
+use Rattle.vb_parse_decl.specs.Declarations.{AreTypeParameters, IsDeclared, AreParameters, Signed, IsResult, IsHandler, IsInitial, AreImplemented}
 use Rattle.vb_parse_decl.specs.DeclarationReading.{after_as, after_equal, read_declared, read_written, read_parameters, read_type_parameters, signature, read_signature, result_behind, read_result}
 use Rattle.vb_parse_decl.specs.LineReading.{handler_behind, read_handler, initial_behind, read_initial}
 use Rattle.vb_parse_decl.proofs.Readers.{Reads, Found, then_is, part_read, read_part, name_read, read_names}
-use Rattle.vb_parse_decl.proofs.ReadersTypes.{stops, Stops, type_reads, expression_read, EndsExpression}
-use Rattle.vb_parse_decl.proofs.ReadersParameters.{NoTypeParameters, NoParameters, Anything, type_parameters_reads, declared_reads, written_reads, parameters_reads, parameters_no_of, as_first, as_stands, opening_stands}
+use Rattle.vb_parse_decl.proofs.ReadersTypes.{stops, Stops, type_reads, expression_read}
+use Rattle.vb_parse_decl.proofs.ReadersParameters.{NoTypeParameters, NoParameters, type_parameters_reads, declared_reads, written_reads, parameters_reads, parameters_no_of, as_first, as_stands, opening_stands}
 use Rattle.vb_parse_decl.proofs.ReadersMembers.{whole_reads, whole_found}
 
 -- WHAT STANDS BEHIND

@@ -1,7 +1,5 @@
 -- Where a part isn't found, or ends elsewhere, nothing is spelled.
-use Rattle.std.proofs.Common.{◌≡◌, ℕ, ◌+◌, ◌-◌, ◌≤◌, List, length, drop, Option, Some, None, Result, Err, sym, ap, ◌∙◌, subst, arith, length-drop}
-use Rattle.std.specs.List.{slice_get}
-use Rattle.std.proofs.lemmas.List.{drop-drop}
+use Rattle.std.proofs.Common.{◌≡◌, ℕ, ◌-◌, ◌≤◌, List, length, drop, Result, Err, sym, subst, arith, length-drop}
 use Rattle.vb_syntax.specs.declared.tokens.Token.{Token}
 use Rattle.vb_syntax.specs.declared.tokens.Line.{Line}
 use Rattle.vb_syntax.specs.declared.expression.Expr.{Expr}

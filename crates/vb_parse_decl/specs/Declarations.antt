@@ -1,5 +1,5 @@
 -- The parts of declarations (Visual Basic Language Specification 11.0, at each part).
-use Rattle.std.specs.Prelude.{◌≡◌, ◌⊎◌, List, [], ◌∷◌, ◌++◌, Option, Some, None}
+use Rattle.std.specs.Prelude.{◌≡◌, ◌⊎◌, List, [], ◌∷◌, ◌++◌, Option, Some}
 use Rattle.vb_text.specs.declared.names.Name.{Name}
 use Rattle.vb_syntax.specs.declared.keyword.Keyword.{Keyword}
 use Rattle.vb_syntax.specs.declared.keyword.Keyword.TheVariants as word
@@ -21,7 +21,6 @@ use Rattle.vb_syntax.specs.declared.declaration.Parameter.{Parameter}
 use Rattle.vb_syntax.specs.declared.declaration.EventHandler.{EventHandler}
 use Rattle.vb_syntax.specs.declared.declaration.EventHandler.TheVariants as handler
 use Rattle.vb_syntax.specs.declared.declaration.ImplementedMember.{ImplementedMember}
-use Rattle.vb_syntax.specs.declared.declaration.MethodSignature.{MethodSignature}
 use Rattle.vb_parse_expr.specs.Words.{opening, closing, opening_brace, closing_brace, dot, name_of}
 use Rattle.vb_parse_decl.specs.Parts.{reserved, equal, IsExpression, IsType, After, Begins, Names, Words, Part, IsOptional, AreListed}
 

@@ -1,15 +1,13 @@
 -- How what stands behind the modifiers of a line is read: private steps on lists, which the code equals.
-use Rattle.std.specs.Prelude.{◌≡◌, ◌==◌, if◌then◌else◌, ℕ, Bool, true, false, List, [], ◌∷◌, ◌++◌, Option, Some, None}
+use Rattle.std.specs.Prelude.{◌≡◌, ◌==◌, if◌then◌else◌, ℕ, Bool, true, false, List, [], ◌∷◌, Option, Some, None}
 use Rattle.vb_text.specs.declared.names.Name.{Name}
 use Rattle.vb_syntax.specs.declared.keyword.Keyword.{Keyword}
 use Rattle.vb_syntax.specs.declared.keyword.Keyword.TheVariants as word
 use Rattle.vb_syntax.specs.declared.tokens.Token.{Token}
 use Rattle.vb_syntax.specs.declared.tokens.Token.TheVariants as token
 use Rattle.vb_syntax.specs.declared.types.TypeName.{TypeName}
-use Rattle.vb_syntax.specs.declared.types.TypeParameter.{TypeParameter}
 use Rattle.vb_syntax.specs.declared.expression.Expr.{Expr}
 use Rattle.vb_syntax.specs.declared.declarator.Declarator.{Declarator}
-use Rattle.vb_syntax.specs.declared.declaration.Access.{Access}
 use Rattle.vb_syntax.specs.declared.declaration.ClassModifier.{ClassModifier}
 use Rattle.vb_syntax.specs.declared.declaration.ClassModifier.TheVariants as class_modifier
 use Rattle.vb_syntax.specs.declared.declaration.DelegateKind.{DelegateKind}
@@ -19,7 +17,6 @@ use Rattle.vb_syntax.specs.declared.declaration.EventHandler.TheVariants as hand
 use Rattle.vb_syntax.specs.declared.declaration.FunctionKind.{FunctionKind}
 use Rattle.vb_syntax.specs.declared.declaration.FunctionKind.TheVariants as function
 use Rattle.vb_syntax.specs.declared.declaration.ImplementedMember.{ImplementedMember}
-use Rattle.vb_syntax.specs.declared.declaration.MethodSignature.{MethodSignature}
 use Rattle.vb_syntax.specs.declared.declaration.Modifier.{Modifier}
 use Rattle.vb_syntax.specs.declared.declaration.NameModifier.{NameModifier}
 use Rattle.vb_syntax.specs.declared.declaration.PropertyKind.{PropertyKind}
@@ -31,9 +28,9 @@ use Rattle.vb_syntax.specs.declared.item.EventAccessorKind.TheVariants as access
 use Rattle.vb_syntax.specs.declared.item.PropertyHeader.{PropertyHeader}
 use Rattle.vb_syntax.specs.declared.words.ContextualWords.{ContextualWords}
 use Rattle.vb_parse_expr.specs.Reading.{after_opening, after_dot}
-use Rattle.vb_parse_expr.specs.TypeReading.{Read, and_then, behind, read_name, read_type}
+use Rattle.vb_parse_expr.specs.TypeReading.{Read, and_then, read_name, read_type}
 use Rattle.vb_parse_expr.specs.Placing.{read_expression}
-use Rattle.vb_parse_decl.specs.DeclarationReading.{after_as, after_implements, after_equal, read_list, name_modifier_of, read_declared, read_written, read_parameters, read_type_parameters, read_signature, read_result}
+use Rattle.vb_parse_decl.specs.DeclarationReading.{after_implements, after_equal, read_list, name_modifier_of, read_declared, read_written, read_parameters, read_type_parameters, read_signature, read_result}
 use Rattle.vb_parse_decl.specs.MemberReading.{member_of as member_in}
 use Rattle.vb_parse_decl.specs.ModifierReading.{only_access, property_split}
 use Rattle.vb_parse_decl.specs.Parts.{AreListed}

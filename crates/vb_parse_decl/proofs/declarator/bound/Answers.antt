@@ -1,4 +1,4 @@
-use Rattle.std.proofs.Common.{rules, ◌≡◌, ◌-◌, ◌≤◌, ◌<◌, true, false, length, Err, arith, ◌∙◌, sym, ap, drop, length-drop}
+use Rattle.std.proofs.Common.{rules, ◌≡◌, true, false, Err, arith, ◌∙◌, sym, ap, drop}
 use Rattle.vb_parse_decl.specs.Parts.{IsExpression}
 use Rattle.vb_parse_decl.specs.Declarators.{IsBound}
 use Rattle.vb_parse_decl.specs.DeclaredReading.{IsPartAt, anything, is_closing, begins_opening}

@@ -1,4 +1,4 @@
-use Rattle.std.proofs.Common.{arith, ◌∙◌, sym, ap}
+use Rattle.std.proofs.Common.{◌∙◌, sym, ap}
 use Rattle.vb_parse_decl.specs.DeclaredReading.{is_closing}
 use Rattle.vb_parse_decl.proofs.DeclaredParts.{no_expression_at, closing_over, expression_at}
 use Rattle.vb_parse_decl.proofs.declarator.closed_expression.Goals as goal

@@ -1,6 +1,6 @@
-use Rattle.std.proofs.Common.{rules, ◌≡◌, ◌+◌, ◌-◌, ◌≤◌, ◌<◌, true, false, List, [], ◌∷◌, ◌++◌, length, Err, arith, ◌∙◌, sym, ap, subst, drop, length-drop}
+use Rattle.std.proofs.Common.{rules, ◌≡◌, false, ◌∙◌, sym, ap, drop}
 use Rattle.std.proofs.lemmas.Bool.{both_ways}
-use Rattle.vb_parse_decl.specs.DeclaredReading.{IsPartAt, is_over}
+use Rattle.vb_parse_decl.specs.DeclaredReading.{is_over}
 use Rattle.vb_parse_decl.proofs.DeclaredValues.{no_new, new_at}
 use Rattle.vb_parse_decl.proofs.declarator.creation.Goals as goal
 

@@ -1,4 +1,4 @@
-use Rattle.std.proofs.Common.{rules, ◌≡◌, ◌+◌, ◌-◌, ◌≤◌, ◌<◌, true, false, List, [], ◌∷◌, ◌++◌, length, Err, refl, arith, ◌∙◌, sym, ap, subst, drop, length-drop}
+use Rattle.std.proofs.Common.{rules, ◌≡◌, ◌+◌, ◌-◌, List, [], ◌∷◌, ◌++◌, length, Err, refl, arith, ◌∙◌, sym, subst, drop, length-drop}
 use Rattle.vb_syntax.specs.declared.declarator.Declarator.{Declarator}
 use Rattle.vb_parse_decl.specs.Parts.{AreListed}
 use Rattle.vb_parse_decl.specs.Declarators.{IsDeclarator}

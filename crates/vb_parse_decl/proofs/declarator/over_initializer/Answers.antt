@@ -1,4 +1,4 @@
-use Rattle.std.proofs.Common.{arith, ◌∙◌, sym, ap}
+use Rattle.std.proofs.Common.{◌∙◌, sym, ap}
 use Rattle.vb_parse_decl.specs.DeclaredReading.{is_over}
 use Rattle.vb_parse_decl.proofs.DeclaredValues.{no_initializer_at, initializer_at}
 use Rattle.vb_parse_decl.proofs.declarator.over_initializer.Goals as goal

@@ -1,4 +1,4 @@
-use Rattle.std.proofs.Common.{rules, ◌≡◌, ◌+◌, ◌-◌, ◌≤◌, ◌<◌, true, false, length, Err, arith, ◌∙◌, sym, ap, drop, length-drop}
+use Rattle.std.proofs.Common.{rules, ◌≡◌, ◌+◌, true, false, Err, arith, ◌∙◌, sym, ap, drop}
 use Rattle.std.proofs.lemmas.Bool.{both_ways}
 use Rattle.vb_parse_expr.specs.Expressions.{SpellsInitializer}
 use Rattle.vb_parse_decl.specs.DeclaredReading.{IsPartAt, IsTyped, is_over, begins_equal}

@@ -1,4 +1,4 @@
-use Rattle.std.proofs.Common.{rules, ◌≡◌, ◌+◌, ◌-◌, ◌++◌, ◌∷◌, [], length, Some, None, Err, sym, ◌∙◌, ap, arith}
+use Rattle.std.proofs.Common.{rules, ◌≡◌, ◌+◌, ◌-◌, ◌++◌, ◌∷◌, [], length, Some, None, Err, sym, ◌∙◌, ap}
 use Rattle.std.specs.Option.{option_map}
 use Rattle.vb_parse_expr.specs.Reading.{after_comma}
 use Rattle.vb_parse_decl.specs.DeclarationReading.{listed, read_list}
