@@ -1,0 +1,65 @@
+"""Writes Visual Basic source of one size for the measurements.
+
+Usage: source.py lines|items BYTES FILE. `lines` has lines that only the lexer reads, as an `If` on one line; each line of
+`items` is one item.
+"""
+import random
+import sys
+
+random.seed(7)
+WORDS = (
+    "count total index value name text line item first last next order price limit owner buffer state worker result number"
+).split()
+NAMES = sorted({(random.choice(WORDS) + random.choice(WORDS).capitalize())[: random.randint(5, 15)] for _ in range(2000)})
+
+
+def n():
+    return random.choice(NAMES)
+
+
+def number(most):
+    return random.randint(0, most)
+
+
+FRONT = [
+    lambda: f"    Public Shared Function {n()}(ByVal {n()} As String, ByRef {n()} As Long) As Boolean",
+    lambda: f"        Dim {n()} As Integer = {number(100000)}",
+    lambda: f"        {n()} = {n()} + {n()} * {number(99)} - &H{number(65535):X}",
+    lambda: f'        Console.WriteLine("the {n()} is " & {n()} & " of {number(999)}")',
+    lambda: f"        ' the {n()} of each {n()} is kept until the {n()} ends",
+]
+FOR = lambda: f"        For {n()} As Integer = 0 To {n()}.{n()}({n()}, {n()}) - 1"
+CALLS = [
+    lambda: f'            {n()}.{n()}({n()}, "{n()}", {n()}({number(9)}), {number(9)}UL) \' done',
+    lambda: f"            {n()}({n()} _",
+    lambda: f"                , {n()})",
+]
+BACK = [
+    lambda: f"        Next {n()}",
+    lambda: f"        Return {n()} AndAlso {n()} < {number(9)}",
+    lambda: "    End Function",
+    lambda: "",
+]
+FORMS = {
+    "lines": FRONT
+    + [FOR, lambda: f"            If {n()} <= {n()}.Length AndAlso Not {n()} Then {n()} += 1"]
+    + CALLS
+    + BACK,
+    "items": FRONT
+    + [lambda: f"        While {n()} <= {n()}.Length AndAlso Not {n()}"]
+    + CALLS
+    + [lambda: f"            {n()} = New {n()}.{n()}({n()}, If({n()}, CInt({n()}), {number(9)}))", lambda: "        End While", FOR]
+    + BACK,
+}
+
+lines = []
+left = int(sys.argv[2])
+while left > 0:
+    for form in FORMS[sys.argv[1]]:
+        line = form() + "\r\n"
+        if len(line) > left:
+            line = "\n" * left
+        lines.append(line)
+        left -= len(line)
+with open(sys.argv[3], "w", newline="") as file:
+    file.write("".join(lines))
