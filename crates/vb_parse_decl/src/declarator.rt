@@ -21,7 +21,12 @@ use vb_syntax::{
 };
 use vb_text::Name;
 
-/// One declarator or several with commas between them, which all tokens from this place on are.
+/// One declarator or several with commas between them, which all tokens from this place on are
+/// (Visual Basic Language Specification 11.0, 9.6).
+///
+/// # Errors
+///
+/// `Refused`, with the line's `refusal`, exactly where they are none. `Memory` where there is no memory for the tree.
 pub fn declarators(alloc: Global, line: &Line, from: usize) -> Result<Items<Declarator>, ParseErr>
     requires { from ≤ length line.now.tokens }
     ensures { Tells (AreListed IsDeclarator) line.now (drop from line.now.tokens) result }
@@ -181,7 +186,11 @@ fn creation(
     }
 }
 
-/// An expression, up to a comma or the line's end.
+/// The expression from this place up to a comma or the line's end, and the place behind it.
+///
+/// # Errors
+///
+/// `Refused`, with the line's `refusal`, exactly where no expression ends there. `Memory` where there is no memory for the tree.
 pub fn over_expression(alloc: Global, line: &Line, from: usize) -> Result<(Expr, usize), ParseErr>
     requires { from ≤ length line.now.tokens }
     ensures { Answers (IsPartAt is_over IsExpression) line.now from result }
@@ -223,7 +232,7 @@ fn over_initializer(
     }
 }
 
-/// The tokens from this place on.
+/// The tokens from this place on; and a line has no more tokens than a place can count.
 pub fn rest(line: &Line, from: usize) -> &[Token]
     requires { from ≤ length line.now.tokens }
     ensures rest { result.now ≡ drop from line.now.tokens }
@@ -232,7 +241,7 @@ pub fn rest(line: &Line, from: usize) -> &[Token]
     &line.tokens.as_slice()[from..]
 }
 
-/// The name that stands first.
+/// The name that stands first, between brackets or not; none where something else or nothing does.
 pub fn first_name(tokens: &[Token]) -> Option<Name>
     ensures { result ≡ spec.first_name tokens.now }
 {
@@ -242,7 +251,12 @@ pub fn first_name(tokens: &[Token]) -> Option<Name>
     }
 }
 
-/// An expression between parentheses.
+/// The bound of an array from this place on, an expression between parentheses, and the place behind it
+/// (Visual Basic Language Specification 11.0, 9.6).
+///
+/// # Errors
+///
+/// `Refused`, with the line's `refusal`, exactly where no bound stands there. `Memory` where there is no memory for the tree.
 pub fn bound(alloc: Global, line: &Line, from: usize) -> Result<(Expr, usize), ParseErr>
     requires { from ≤ length line.now.tokens }
     ensures { Answers (IsPartAt anything IsBound) line.now from result }

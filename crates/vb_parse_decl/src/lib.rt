@@ -16,7 +16,7 @@ mod type_parameters;
 
 pub use declarator::{bound, declarators, first_name, is_over, over_expression, rest};
 pub use line::{one_declaration, parse_declaration};
-pub use parts::{is_equal_at, whole_expression, whole_initializer};
+pub use parts::{is_equal_at, whole_expression};
 pub use vb_parse_expr::ParseErr;
 
 #[cfg(test)]

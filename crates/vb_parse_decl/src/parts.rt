@@ -8,7 +8,11 @@ use std::alloc::Global;
 use vb_parse_expr::{ParseErr, one_reading, parse_expr, parse_initializer, refusal};
 use vb_syntax::{Expr, Line, Symbol, Token, VariableInitializer};
 
-/// The expression that all tokens from this place on are.
+/// The expression that all tokens from this place on are (Visual Basic Language Specification 11.0, 11).
+///
+/// # Errors
+///
+/// `Refused`, with the line's `refusal`, exactly where they are none. `Memory` where there is no memory for the tree.
 pub fn whole_expression(alloc: Global, line: &Line, from: usize) -> Result<Expr, ParseErr>
     requires { from ≤ length line.now.tokens }
     ensures { Tells IsExpression line.now (drop from line.now.tokens) result }
@@ -27,7 +31,11 @@ pub fn whole_expression(alloc: Global, line: &Line, from: usize) -> Result<Expr,
     }
 }
 
-/// The first value that all tokens from this place on are.
+/// The first value that all tokens from this place on are (Visual Basic Language Specification 11.0, 9.6 and 11.15).
+///
+/// # Errors
+///
+/// `Refused`, with the line's `refusal`, exactly where they are none. `Memory` where there is no memory for the tree.
 pub fn whole_initializer(
     alloc: Global,
     line: &Line,
@@ -50,7 +58,7 @@ pub fn whole_initializer(
     }
 }
 
-/// Whether `=` stands at this place.
+/// Whether `=` stands at this place of the line's tokens; behind the last one nothing does.
 pub fn is_equal_at(line: &Line, at: usize) -> bool
     ensures { IsTrue result ↔ (slice_get line.now.tokens at ≡ Some equal) }
 {
