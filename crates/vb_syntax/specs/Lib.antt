@@ -1,2 +1,3 @@
 pub mod ContextualWords
+pub mod Items
 pub mod Texts

@@ -1,4 +1,6 @@
 // What stands on a logical line by itself, whatever block it is in.
+ghost use Rattle.std.specs.Prelude.{◌≡◌};
+ghost use Rattle.vb_syntax.specs.Items as spec;
 
 use crate::declaration::{
     Access, ClassModifier, DelegateKind, EventHandler, FunctionKind, ImplementedMember,
@@ -98,6 +100,34 @@ pub enum Item {
     With(Expr),
     /// `Using` and what it disposes of (10.13).
     Using(UsingResource),
+}
+
+impl Item {
+    /// Whether it is a statement without a block, which may stand in an `If` on one line; a label is none
+    /// (Visual Basic Language Specification 11.0, 10.1 and 10.8.1).
+    pub fn is_simple(&self) -> bool
+        ensures { result ≡ spec.is_simple self.now }
+    {
+        matches!(
+            self,
+            Item::Declaration(..)
+                | Item::ReDim(..)
+                | Item::Assignment(..)
+                | Item::CompoundAssignment(..)
+                | Item::Invocation(_)
+                | Item::Throw(_)
+                | Item::Yield(_)
+                | Item::Return(_)
+                | Item::GoTo(_)
+                | Item::Exit(_)
+                | Item::Continue(_)
+                | Item::OnError(_)
+                | Item::Resume(_)
+                | Item::AddHandler(..)
+                | Item::RemoveHandler(..)
+                | Item::RaiseEvent(..)
+        )
+    }
 }
 
 /// What a line of the declarations of types and members says, but for variables and constants without modifiers
@@ -224,11 +254,31 @@ pub enum Joint {
     Else,
 }
 
-/// An item with its place: the number of its logical line, and what stands behind it there (Visual Basic Language Specification
-/// 11.0, 1.1).
+impl Joint {
+    /// Whether it ends the statements of a line.
+    pub fn is_end(self) -> bool
+        ensures { result ≡ spec.is_end self }
+    {
+        matches!(self, Joint::End)
+    }
+}
+
+/// Whether `MustOverride` is among the modifiers, so that the member has no block (Visual Basic Language Specification 11.0, 9.2.1).
+pub fn must_override(modifiers: &[Modifier]) -> bool
+    ensures { result ≡ spec.must_override modifiers.now }
+{
+    modifiers
+        .iter()
+        .any(|modifier| matches!(modifier, Modifier::MustOverride))
+}
+
+/// What was read of a line, or of a part of it (Visual Basic Language Specification 11.0, 1.1).
 #[derive(Drop)]
 pub struct Row {
+    /// The number of the logical line, from 1.
     pub line: u32,
-    pub item: Item,
+    /// The item that stands there; none where nothing of the grammar does.
+    pub item: Option<Item>,
+    /// What stands behind it in the line.
     pub behind: Joint,
 }

@@ -23,7 +23,9 @@ pub use declarator::{Declarator, VariableIdentifier, VariableModifier};
 pub use expression::{
     BinaryOperator, CastOperator, Expr, RelationalOperator, UnaryOperator, VariableInitializer,
 };
-pub use item::{BlockWord, DeclarationLine, EventAccessorKind, Item, Joint, PropertyHeader, Row};
+pub use item::{
+    BlockWord, DeclarationLine, EventAccessorKind, Item, Joint, PropertyHeader, Row, must_override,
+};
 pub use keyword::Keyword;
 pub use statement::{
     Block, BlockClause, CaseClause, CaseItem, CatchClause, CatchVariable, CompoundOperator,

@@ -1,8 +1,10 @@
 // Tokens and logical lines.
+ghost use Rattle.std.specs.Prelude.{◌≡◌, IfOk};
 
 use crate::keyword::Keyword;
 use crate::symbol::Symbol;
 use sqlite_items::Items;
+use std::alloc::{AllocError, Global};
 use vb_text::{Name, Text};
 
 /// The type of an integer literal (Visual Basic Language Specification 11.0, 2.4.2).
@@ -42,6 +44,23 @@ pub enum Token {
     Char(u16),
     /// A separator or an operator.
     Symbol(Symbol),
+}
+
+impl Token {
+    /// An equal token. The error is want of memory.
+    pub fn copy(&self, alloc: Global) -> Result<Token, AllocError>
+        ensures { IfOk result (λ token. token ≡ self.now) }
+    {
+        Ok(match self {
+            Token::Name(name) => Token::Name(*name),
+            Token::EscapedName(name) => Token::EscapedName(*name),
+            Token::Keyword(keyword) => Token::Keyword(*keyword),
+            Token::Integer(literal) => Token::Integer(*literal),
+            Token::Text(text) => Token::Text(text.copy(alloc)?),
+            Token::Char(unit) => Token::Char(*unit),
+            Token::Symbol(symbol) => Token::Symbol(*symbol),
+        })
+    }
 }
 
 /// A logical line (Visual Basic Language Specification 11.0, 2.1): one physical line or several that are continued. It has
