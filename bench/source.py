@@ -1,7 +1,7 @@
 """Writes Visual Basic source of one size for the measurements.
 
-Usage: source.py lines|items BYTES FILE. `lines` has lines that only the lexer reads, as an `If` on one line; each line of
-`items` is one item.
+Usage: source.py lines|module BYTES FILE. `lines` has lines of every kind, in no order; `module` is one module of functions,
+which breaks no rule on lines and blocks.
 """
 import random
 import sys
@@ -40,26 +40,32 @@ BACK = [
     lambda: "    End Function",
     lambda: "",
 ]
+IF = lambda: f"            If {n()} <= {n()}.Length AndAlso Not {n()} Then {n()} += 1"
+ASSIGNMENT = lambda: f"            {n()} = New {n()}.{n()}({n()}, If({n()}, CInt({n()}), {number(9)}))"
 FORMS = {
-    "lines": FRONT
-    + [FOR, lambda: f"            If {n()} <= {n()}.Length AndAlso Not {n()} Then {n()} += 1"]
-    + CALLS
-    + BACK,
-    "items": FRONT
+    "lines": FRONT + [FOR, IF] + CALLS + BACK,
+    "module": FRONT
     + [lambda: f"        While {n()} <= {n()}.Length AndAlso Not {n()}"]
     + CALLS
-    + [lambda: f"            {n()} = New {n()}.{n()}({n()}, If({n()}, CInt({n()}), {number(9)}))", lambda: "        End While", FOR]
+    + [ASSIGNMENT, IF, lambda: f"            {n()}.{n()}() : {n()} = {n()}", lambda: "        End While", FOR]
     + BACK,
 }
+FIRST = {"lines": "", "module": "Module M\r\n"}
+LAST = {"lines": "", "module": "End Module\r\n"}
 
-lines = []
-left = int(sys.argv[2])
-while left > 0:
-    for form in FORMS[sys.argv[1]]:
-        line = form() + "\r\n"
-        if len(line) > left:
-            line = "\n" * left
-        lines.append(line)
-        left -= len(line)
-with open(sys.argv[3], "w", newline="") as file:
-    file.write("".join(lines))
+
+def main(kind, size, path):
+    parts = [FIRST[kind]]
+    left = size - len(FIRST[kind]) - len(LAST[kind])
+    while True:
+        part = "".join(form() + "\r\n" for form in FORMS[kind])
+        if len(part) > left:
+            break
+        parts.append(part)
+        left -= len(part)
+    parts += ["\n" * left, LAST[kind]]
+    with open(path, "w", newline="") as file:
+        file.write("".join(parts))
+
+
+main(sys.argv[1], int(sys.argv[2]), sys.argv[3])

@@ -1,0 +1,11 @@
+use Rattle.std.proofs.Common.{drop, take, reverse}
+use Rattle.vb_ends.specs.Enders.{IsLeast}
+use Rattle.vb_ends.specs.Depth.{IsTooDeep}
+use Rattle.vb_ends.specs.Reading.{HasRead, next_item}
+use Rattle.vb_ends.proofs.depth.first_too_deep.Given as goal
+
+abbrev pub invariant-loop-at : goal.invariant-loop-at
+invariant-loop-at l = record {
+  read : HasRead l.reader (next_item (drop l.at l.rows)) (reverse (take l.at l.rows));
+  least : IsLeast (IsTooDeep (reverse (take l.at l.rows)) (reverse (take l.at l.brackets))) l.first;
+}

@@ -1,0 +1,7 @@
+pub mod Enders
+pub mod Brackets
+pub mod Counts
+pub mod Stack
+pub mod Roles
+pub mod Depth
+pub mod Reading

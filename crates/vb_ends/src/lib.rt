@@ -1,0 +1,22 @@
+//! Which blocks of a file are open, where a block has no end or an end has no block, and where a row stands too deep in them (Visual
+//! Basic Language Specification 11.0, 7, 9 and 10).
+#![tactic(auto)]
+
+mod blocks;
+mod depth;
+mod laws;
+mod reading;
+mod role;
+mod roles;
+mod stack;
+
+pub use blocks::{Blocks, first_broken};
+pub use depth::first_too_deep;
+pub use laws::{blocks_nest, brackets_end, open_blocks_break};
+pub use reading::first_unended;
+pub use role::{Mark, Role, Sort};
+
+#[cfg(test)]
+mod row_tests;
+#[cfg(test)]
+mod tests;

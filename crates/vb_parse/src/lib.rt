@@ -1,0 +1,14 @@
+//! From the logical lines of a file to its rows, or the least rule on lines and blocks that they break (Visual Basic Language
+//! Specification 11.0, 6, 7, 9 and 10).
+#![tactic(auto)]
+
+mod broken;
+mod files;
+mod modifiers;
+mod options;
+
+pub use files::parse;
+pub use vb_parse_expr::ParseErr;
+
+#[cfg(test)]
+mod tests;

@@ -1,0 +1,145 @@
+// Modifiers that are repeated or exclude each other.
+ghost use Rattle.std.specs.Prelude.{◌≡◌};
+ghost use Rattle.vb_ends.specs.Enders.{IsLeast};
+ghost use Rattle.vb_parse.specs.Modifiers as spec;
+ghost use Rattle.vb_parse.specs.Modifiers.{HasModifiersAtOdds};
+
+use crate::broken::least_line;
+use vb_syntax::{Access, DeclarationLine, Item, Modifier, PropertyKind, Row};
+
+// Whether the two are one modifier, or both say an access.
+fn repeats(first: Modifier, second: Modifier) -> bool
+    ensures { result ≡ spec.repeats first second }
+{
+    match (first, second) {
+        (Modifier::Access(_), Modifier::Access(_)) => true,
+        _ => first == second,
+    }
+}
+
+// Whether the two exclude each other, in this order of the table.
+fn excludes(first: Modifier, second: Modifier) -> bool
+    ensures { result ≡ spec.excludes first second }
+{
+    matches!(
+        (first, second),
+        (
+            Modifier::Overridable,
+            Modifier::MustOverride | Modifier::NotOverridable | Modifier::Overrides
+        ) | (Modifier::MustOverride, Modifier::NotOverridable)
+            | (
+                Modifier::Shared,
+                Modifier::Overridable
+                    | Modifier::MustOverride
+                    | Modifier::NotOverridable
+                    | Modifier::Overrides
+            )
+            | (Modifier::Overloads | Modifier::Overrides, Modifier::Shadows)
+            | (
+                Modifier::Access(Access::Private),
+                Modifier::Overridable | Modifier::MustOverride
+            )
+    )
+}
+
+fn clashes(first: Modifier, second: Modifier) -> bool
+    ensures { result ≡ spec.clashes first second }
+{
+    repeats(first, second) || excludes(first, second) || excludes(second, first)
+}
+
+fn clashes_with_one(first: Modifier, others: &[Modifier]) -> bool
+    ensures { result ≡ spec.clashes_with_one first others.now }
+{
+    for other in others {
+        if clashes(first, *other) {
+            return true;
+        }
+    }
+    false
+}
+
+// Whether some two of them clash.
+fn are_at_odds(modifiers: &[Modifier]) -> bool
+    ensures { result ≡ spec.are_at_odds modifiers.now }
+{
+    let mut rest = modifiers;
+    while let [first, behind @ ..] = rest {
+        if clashes_with_one(*first, behind) {
+            return true;
+        }
+        rest = behind;
+    }
+    false
+}
+
+fn has_read_only(modifiers: &[Modifier]) -> bool
+    ensures { result ≡ spec.has_read_only modifiers.now }
+{
+    for modifier in modifiers {
+        if is_read_only(*modifier) {
+            return true;
+        }
+    }
+    false
+}
+
+fn is_read_only(modifier: Modifier) -> bool
+    ensures { result ≡ spec.is_read_only modifier }
+{
+    match modifier {
+        Modifier::ReadOnly => true,
+        _ => false,
+    }
+}
+
+fn property_at_odds(modifiers: &[Modifier], kind: PropertyKind) -> bool
+    ensures { result ≡ spec.property_at_odds modifiers.now kind }
+{
+    match kind {
+        PropertyKind::ReadWrite => are_at_odds(modifiers),
+        PropertyKind::ReadOnly | PropertyKind::WriteOnly => {
+            has_read_only(modifiers) || are_at_odds(modifiers)
+        }
+    }
+}
+
+fn line_at_odds(line: &DeclarationLine) -> bool
+    ensures { result ≡ spec.line_at_odds line.now }
+{
+    match line {
+        DeclarationLine::Variables(modifiers, _)
+        | DeclarationLine::Constants(modifiers, _)
+        | DeclarationLine::Sub(modifiers, _, _)
+        | DeclarationLine::Constructor(modifiers, _, _)
+        | DeclarationLine::Function { modifiers, .. }
+        | DeclarationLine::Event { modifiers, .. }
+        | DeclarationLine::CustomEvent(modifiers, _, _) => are_at_odds(modifiers.as_slice()),
+        DeclarationLine::Property(modifiers, header) => {
+            property_at_odds(modifiers.as_slice(), header.kind)
+        }
+        _ => false,
+    }
+}
+
+fn item_at_odds(item: &Option<Item>) -> bool
+    ensures { result ≡ spec.item_at_odds item.now }
+{
+    match item {
+        Some(Item::Declares(line)) => line_at_odds(line),
+        _ => false,
+    }
+}
+
+// The least line with modifiers that are repeated or exclude each other.
+pub fn first_at_odds(rows: &[Row]) -> Option<u32>
+    ensures { IsLeast (HasModifiersAtOdds rows.now) result }
+{
+    let mut first = None;
+    for row in rows {
+        if item_at_odds(&row.item) {
+            first = least_line(first, row.line);
+        }
+    }
+    first
+}

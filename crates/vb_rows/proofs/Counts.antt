@@ -1,0 +1,52 @@
+-- How many rows a line has.
+use Rattle.std.proofs.Common.{◌≡◌, ℕ, suc, ◌+◌, Bool, not, false, List, [], ◌∷◌, Option, Some, None, length, refl, sym, ap, ◌∙◌, length-append}
+use Rattle.vb_text.specs.declared.names.Name.{Name}
+use Rattle.vb_syntax.specs.declared.tokens.Line.{Line}
+use Rattle.vb_syntax.specs.declared.item.Item.{Item}
+use Rattle.vb_syntax.specs.declared.item.Row.{Row}
+use Rattle.vb_syntax.specs.declared.words.ContextualWords.{ContextualWords}
+use Rattle.vb_syntax.specs.Items.{is_end}
+use Rattle.vb_rows.specs.Pieces.{Piece, label_of, pieces_of}
+use Rattle.vb_rows.specs.Rows.{items_behind, joint_of, joined, label_rows, ArePieceRows, AreLineRows}
+use Rattle.vb_rows.specs.Files.{piece_brackets, label_brackets, line_brackets, brackets_of, AreRowsOf, row_count}
+
+pub joined_count : (inside : Bool) (rs : List Row) → length (joined inside rs) ≡ length rs
+joined_count inside [] = refl
+joined_count inside (r ∷ rs) = ap suc (joined_count (not (is_end (joint_of inside r.behind rs))) rs)
+
+pub piece_count : (words : ContextualWords) (number : ℕ) (items : List (Option Item)) (ps : List Piece) (rs : List Row) → ArePieceRows words number items ps rs → length rs ≡ length ps
+piece_count words number items [] [] h = refl
+piece_count words number items [] (r ∷ rs) h = absurd h
+piece_count words number items (p ∷ ps) [] h = absurd h
+piece_count words number items (p ∷ ps) (r ∷ rs) h = ap suc (piece_count words number (r.item ∷ items) ps rs h.3)
+
+pub line_count : (words : ContextualWords) (items : List (Option Item)) (line : Line) (rows : List Row) → AreLineRows words items line rows → length rows ≡ row_count line
+line_count words items line rows are =
+    let labels = label_rows line.number (label_of line.tokens) in
+    ap (λ rs. length rs) are.joined_are ∙ length-append labels (joined false are.parts)
+    ∙ ap (λ n. length labels + n) (joined_count false are.parts ∙ piece_count words line.number items (pieces_of line.tokens) are.parts are.are)
+
+-- BRACKETS
+
+piece_brackets_count : (ps : List Piece) → length (piece_brackets ps) ≡ length ps
+piece_brackets_count [] = refl
+piece_brackets_count (p ∷ ps) = ap suc (piece_brackets_count ps)
+
+label_brackets_count : (number : ℕ) (o : Option Name) → length (label_brackets o) ≡ length (label_rows number o)
+label_brackets_count number None = refl
+label_brackets_count number (Some n) = refl
+
+line_brackets_count : (l : Line) → length (line_brackets l) ≡ row_count l
+line_brackets_count l =
+    let o = label_of l.tokens in let ps = pieces_of l.tokens in
+    length-append (label_brackets o) (piece_brackets ps) ∙ ap (λ n. n + length (piece_brackets ps)) (label_brackets_count l.number o)
+    ∙ ap (λ n. length (label_rows l.number o) + n) (piece_brackets_count ps)
+
+-- each row has its brackets
+pub brackets_count : (words : ContextualWords) (items : List (Option Item)) (ls : List Line) (rows : List Row) → AreRowsOf words items ls rows → length (brackets_of ls) ≡ length rows
+brackets_count words items [] rows h = sym (ap (λ rs. length rs) h)
+brackets_count words items (l ∷ ls) rows h =
+    length-append (line_brackets l) (brackets_of ls)
+    ∙ ap (λ n. n + length (brackets_of ls)) (line_brackets_count l ∙ sym (line_count words items l h.0 h.3))
+    ∙ ap (λ n. length h.0 + n) (brackets_count words (items_behind items h.0) ls h.1 h.4)
+    ∙ sym (ap (λ rs. length rs) h.2 ∙ length-append h.0 h.1)

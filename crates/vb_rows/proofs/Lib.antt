@@ -1,0 +1,10 @@
+pub mod Fronts
+pub mod Cuts
+pub mod PieceRows
+pub mod PieceBrackets
+pub mod LineRows
+pub mod Counts
+pub mod MoreLines
+pub mod Refusals
+pub mod FilesRead
+pub mod OneList

@@ -1,0 +1,17 @@
+// What callers' proofs may hold of rows.
+ghost use Rattle.std.specs.Prelude.{◌≡◌, ◌≤◌, List, [], length, All};
+ghost use Rattle.vb_syntax.specs.declared.item.Row.{Row as OneRow};
+ghost use Rattle.vb_syntax.specs.declared.tokens.Line.{Line as OneLine};
+ghost use Rattle.vb_syntax.specs.declared.words.ContextualWords.{ContextualWords as Words};
+ghost use Rattle.vb_syntax.specs.ContextualWords.{OptionsApart};
+ghost use Rattle.vb_parse_expr.specs.TypeReading.{most_tokens};
+ghost use Rattle.vb_rows.specs.Files.{AreRowsOf};
+
+use vb_parse_stmt::one_item;
+
+/// A law for callers' proofs: lines have one list of rows, where the words of options are different names. It does nothing.
+pub fn one_list_of_rows()
+    ensures { (words : Words) (lines : List OneLine) (rows other : List OneRow) → OptionsApart words → All (λ l. length l.tokens ≤ most_tokens) lines → AreRowsOf words [] lines rows → AreRowsOf words [] lines other → rows ≡ other }
+{
+    one_item();
+}

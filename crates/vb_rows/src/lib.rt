@@ -1,0 +1,18 @@
+//! Reads the logical lines of a file into rows, each with the item that stands there (Visual Basic Language Specification 11.0, 1.1).
+#![tactic(auto)]
+
+mod brackets;
+mod files;
+mod items;
+mod iterators;
+mod joints;
+mod laws;
+mod lines;
+mod pieces;
+mod places;
+
+pub use files::{FileRows, read_rows};
+pub use laws::one_list_of_rows;
+
+#[cfg(test)]
+mod tests;
