@@ -16,13 +16,11 @@ use Rattle.vb_top.specs.declared.outcome.Answer.TheVariants.{Usage, Missing, Too
 use Rattle.vb_top.specs.declared.outcome.Report.{Report}
 use Rattle.vb_lexer.proofs.Unique.{never_both}
 use Rattle.vb_top.specs.Words.{file_of_words}
-use Rattle.vb_syntax.specs.declared.item.Item.{Item}
 use Rattle.vb_syntax.specs.declared.tokens.Line.{Line}
 use Rattle.vb_syntax.specs.declared.words.ContextualWords.{ContextualWords}
-use Rattle.vb_bind.specs.declared.names.KnownNames.{KnownNames}
-use Rattle.vb_bind.specs.Grammar.{IsProgramOf, widest}
-use Rattle.vb_top.specs.Programs.{AreItems, HaveForms, outside, IsFirstUnbuilt, IsProgram, LeastBroken}
-use Rattle.vb_top.proofs.Forms.{program_forms, none_unbuilt}
+use Rattle.vb_bind.specs.Grammar.{widest}
+use Rattle.vb_parse.specs.Rules.{BreaksLines}
+use Rattle.vb_top.specs.Programs.{IsProgram, LeastBroken}
 use Rattle.vb_top.proofs.Compiled.{same_lines, is_wide}
 use Rattle.vb_top.specs.Answers.{Tells, line_of, status_of}
 use Rattle.vb_top.specs.Reports.{RanProgram}
@@ -45,14 +43,12 @@ refused_built bytes input old before said line rule report name broken (inr e) k
 
 -- a program breaks no rule
 sound_program : (bytes : List ℕ) (t : Tree) (line rule : ℕ) → IsProgram bytes t → LeastBroken bytes line rule → ⊥
-sound_program bytes t line rule p (inl breaks) = never_both p.read.names 0 bytes p.read.lines line rule p.read.lexed.lexed breaks
-sound_program bytes t line rule p (inr (read, is, inl first)) =
-    let same = same_lines bytes p.read read in
-    let here : AreItems (outside p.read.words) read.lines p.items = subst (λ (ls : List Line). AreItems (outside p.read.words) ls p.items) same.0 p.are_items in
-    let are : AreItems (outside read.words) read.lines p.items = subst (λ (w : ContextualWords). AreItems (outside w) read.lines p.items) same.2 here in
-    let program : IsProgramOf read.known p.items t = subst (λ (k : KnownNames). IsProgramOf k p.items t) same.1 p.program in
-    none_unbuilt read.known (outside read.words) read.lines p.items line are (program_forms read.known p.items t program) first
-sound_program bytes t line rule p (inr (read, is, inr none)) = none.1 t p
+sound_program bytes t line rule p (inl breaks) = never_both p.parsed.read.names 0 bytes p.parsed.read.lines line rule p.parsed.read.lexed.lexed breaks
+sound_program bytes t line rule p (inr (inl (read, least))) =
+    let same = same_lines bytes read p.parsed.read in
+    let here : BreaksLines read.words p.parsed.read.lines line rule = subst (λ (ls : List Line). BreaksLines read.words ls line rule) same.0 least.broken in
+    p.parsed.sound line rule (subst (λ (w : ContextualWords). BreaksLines w p.parsed.read.lines line rule) same.2 here)
+sound_program bytes t line rule p (inr (inr unbuilt)) = unbuilt.2 t p
 
 pub works_of : (words : List (List ℕ)) (told : Option Files) (file bytes : List ℕ) (fb fn : ℕ) (input : List ℕ) (old new : Option (List ℕ)) (b n : ℕ) (said : Answer) (report : Option Report) (name : List ℕ) → IsLoaded words told file bytes → Built bytes input old new b n said report name → Works words told file fb fn input old new b n said report name
 works_of words told file bytes fb fn input old new b n (Refused line rule) None name is h = record { judged = (bytes, is); reported = refl; named = tt; least = (bytes, is, h.0); ran = h.1 }
@@ -182,7 +178,7 @@ module _ (words : List (List ℕ)) (told : Option Files) (file : List ℕ) (fb f
           console_lines = x.shows;
           stop_stands = x.stands;
           code_did_it = (x.did, subst (λ i. MayBe input_after i) (sym x.did.input_left) left);
-          numbers = x.counted (widest ran.3.read.lines) (is_wide ran.0 ran.1 ran.3);
+          numbers = x.counted (widest ran.3.parsed.read.lines) (is_wide ran.0 ran.1 ran.3);
           schedule = x.mains;
           cut_short = record { read = read_rose (Some r) works; write = λ e. x.faulted (subst (λ a. IsReported a (Some r)) e works.reported); told = nine said (line_of said file name) status eo en eb ef tells; later = (folder_later, out_later, err_later) };
           complete = completes (Some r) works;

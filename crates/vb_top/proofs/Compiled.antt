@@ -1,23 +1,28 @@
 -- The program of a file, or that there is none.
-use Rattle.std.proofs.Common.{◌≡◌, ℕ, suc, ◌≤◌, List, [], ◌∷◌, length, refl, ap, subst, ◌∙◌, arith}
-use Rattle.std.specs.Prelude.{codes}
+use Rattle.std.proofs.Common.{◌≡◌, ℕ, suc, ◌≤◌, List, [], ◌∷◌, ◌++◌, length, Option, refl, sym, ap, subst, ◌∙◌, arith}
+use Rattle.std.specs.Prelude.{nat_le, false, codes}
+use Rattle.std.proofs.lemmas.Bool.Decides.{nat_tests}
 use Rattle.vb_text.specs.declared.names.Name.{Name}
 use Rattle.vb_text.specs.Names.{AreApart, Extends, IsNameOf, folding}
 use Rattle.vb_text.proofs.Growth.{kept_name}
+use Rattle.vb_syntax.specs.declared.tokens.Token.{Token}
 use Rattle.vb_syntax.specs.declared.tokens.Line.{Line}
 use Rattle.vb_syntax.specs.declared.item.Item.{Item}
-use Rattle.vb_syntax.specs.declared.item.Item.TheVariants as item
-use Rattle.vb_lexer.specs.Lines.{LexedFrom}
-use Rattle.vb_lexer.proofs.Unique.{table_unique, reading_unique}
-use Rattle.vb_bound.specs.Tree.{Tree}
-use Rattle.vb_bind.specs.declared.names.KnownNames.{KnownNames}
-use Rattle.vb_bind.specs.Grammar.{AreKnown, with_known, IsProgramOf, widest}
-use Rattle.vb_bind.proofs.Widest.{is_wide as wide_first}
-use Rattle.vb_syntax.specs.declared.words.Context.{Context}
+use Rattle.vb_syntax.specs.declared.item.Row.{Row}
 use Rattle.vb_syntax.specs.declared.words.ContextualWords.{ContextualWords}
 use Rattle.vb_syntax.specs.ContextualWords.{AreWords, with_words}
-use Rattle.vb_parse_stmt.specs.Items.{IsItem}
-use Rattle.vb_top.specs.Programs.{HasLines, AreItems, outside, IsProgram, IsNoProgram}
+use Rattle.vb_lexer.specs.Lines.{LexedFrom}
+use Rattle.vb_lexer.proofs.Unique.{table_unique, reading_unique}
+use Rattle.vb_rows.specs.Pieces.{label_of, pieces_of}
+use Rattle.vb_rows.specs.Rows.{items_behind, ArePieceRows, AreLineRows, label_rows, joined}
+use Rattle.vb_rows.specs.Files.{AreRowsOf}
+use Rattle.vb_bound.specs.Tree.{Tree}
+use Rattle.vb_bind.specs.declared.names.KnownNames.{KnownNames}
+use Rattle.vb_bind.specs.Grammar.{AreKnown, with_known, widest}
+use Rattle.vb_bind.proofs.Trees.{by_test}
+use Rattle.vb_bind.proofs.Widest.{is_wide as wide_first}
+use Rattle.vb_parse.specs.Rules.{BreaksLines}
+use Rattle.vb_top.specs.Programs.{HasLines, HasRows, AreItems, AreProgram, IsProgram, IsNoProgram}
 
 pub known_stay : (earlier later : List (List ℕ)) (known : KnownNames) → AreKnown earlier known → Extends later earlier → AreKnown later known
 known_stay earlier later known are ext =
@@ -92,25 +97,76 @@ same_lines bytes a b =
       same_words b.names a.words b.words b.apart (subst (λ ns. AreWords ns a.words) table a.are_words) b.are_words,
     )
 
-pub no_other : (bytes : List ℕ) (read : HasLines bytes) (items : List Item) → ((ys : List Item) → AreItems (outside read.words) read.lines ys → ys ≡ items)
-    → ((t : Tree) → IsProgramOf read.known items t → ⊥) → IsNoProgram bytes
-no_other bytes read items alone none = λ t p.
-    let same = same_lines bytes p.read read in
-    let here : AreItems (outside p.read.words) read.lines p.items = subst (λ (ls : List Line). AreItems (outside p.read.words) ls p.items) same.0 p.are_items in
-    let they : p.items ≡ items = alone p.items (subst (λ (w : ContextualWords). AreItems (outside w) read.lines p.items) same.2 here) in
-    none t (subst (λ (k : KnownNames). IsProgramOf k items t) same.1 (subst (λ (xs : List Item). IsProgramOf p.read.known xs t) they p.program))
+-- the lines of a file that was read behind the grammar's names and then the words
+abbrev pub has_lines : (bytes : List ℕ) (first second third names : List (List ℕ)) (known : KnownNames) (words : ContextualWords) (lines : List Line)
+    → first ≡ [] → second ≡ with_known first → third ≡ with_words second → AreKnown second known → Extends third second → AreWords third words → Extends names third
+    → LexedFrom third names 0 bytes lines → AreApart names → HasLines bytes
+has_lines bytes first second third names known words lines a b c are_known more are_words grown lexed apart = record {
+  names = names;
+  lines = lines;
+  known = known;
+  words = words;
+  lexed = subst (λ ns. LexedFrom ns names 0 bytes lines) (c ∙ ap (λ ns. with_words ns) (b ∙ ap (λ ns. with_known ns) a)) lexed;
+  apart = apart;
+  are_known = known_stay third names known (known_stay second third known are_known more) grown;
+  are_words = words_stay third names words are_words grown;
+}
+
+-- lines that break no rule on lines and blocks have their rows
+abbrev pub has_rows : (bytes : List ℕ) (read : HasLines bytes) (lines : List Line) (rows : List Row) → lines ≡ read.lines → AreRowsOf read.words [] lines rows
+    → ((line rule : ℕ) → BreaksLines read.words lines line rule → ⊥) → HasRows bytes
+has_rows bytes read lines rows e are sound = record {
+  read = read;
+  rows = rows;
+  are_rows = subst (λ (ls : List Line). AreRowsOf read.words [] ls rows) e are;
+  sound = subst (λ (ls : List Line). (line rule : ℕ) → BreaksLines read.words ls line rule → ⊥) e sound;
+}
+
+-- where the rows of these lines are all the rows of theirs, and of no program, the bytes are none
+pub no_other : (bytes : List ℕ) (read : HasLines bytes) (rows : List Row) → ((others : List Row) → AreRowsOf read.words [] read.lines others → others ≡ rows)
+    → ((t : Tree) → AreProgram read.known rows t → ⊥) → IsNoProgram bytes
+no_other bytes read rows alone none = λ t p.
+    let of = p.parsed in
+    let same = same_lines bytes of.read read in
+    let here : AreRowsOf of.read.words [] read.lines of.rows = subst (λ (ls : List Line). AreRowsOf of.read.words [] ls of.rows) same.0 of.are_rows in
+    let they : of.rows ≡ rows = alone of.rows (subst (λ (w : ContextualWords). AreRowsOf w [] read.lines of.rows) same.2 here) in
+    none t (subst (λ (rs : List Row). AreProgram read.known rs t) they (subst (λ (k : KnownNames). AreProgram k of.rows t) same.1 p.program))
 
 -- THE WIDTH OF A PROGRAM
 
-first_wide : (c : Context) (lines : List Line) (xs rest : List Item) (s : List (List Name)) → AreItems c lines xs → xs ≡ item.Imports s ∷ rest → 1 ≤ widest lines
-first_wide c lines [] rest s are e = absurd cc
-first_wide c [] (x ∷ xs) rest s are e = absurd are
-first_wide c (l ∷ lines) (x ∷ xs) rest s are e =
-    let first : x ≡ item.Imports s = cc in
-    let begins = subst (λ (y : Item). IsItem c l.tokens y) first are.0 in
-    let long : length l.tokens ≡ suc (length begins.1.0) = ap length begins.1.1 in
-    wide_first l lines (omega (arith, long))
+later_wide : (l : Line) (lines : List Line) → 1 ≤ widest lines → 1 ≤ widest (l ∷ lines)
+later_wide l lines h = by_test (nat_le (length l.tokens) (widest lines)) _ (λ e. rw e h) (λ e. let over : 1 ≤ length l.tokens = grind (arith, nat_tests, e) in rw e over)
+
+-- a line without a token has no row
+no_rows : (words : ContextualWords) (before : List (Option Item)) (l : Line) (here : List Row) → l.tokens ≡ [] → AreLineRows words before l here → here ≡ []
+no_rows words before l here e are = parts_of are.parts (subst (λ (ts : List Token). ArePieceRows words l.number before (pieces_of ts) are.parts) e are.are)
+    (subst (λ (ts : List Token). here ≡ label_rows l.number (label_of ts) ++ joined false are.parts) e are.joined_are)
+  where
+    parts_of : (parts : List Row) → ArePieceRows words l.number before [] parts → here ≡ joined false parts → here ≡ []
+    parts_of [] a is = is
+    parts_of (r ∷ rs) a is = absurd a
+
+by_tokens : (l : Line) (lines : List Line) (ts : List Token) → l.tokens ≡ ts → (l.tokens ≡ [] → 1 ≤ widest lines) → 1 ≤ widest (l ∷ lines)
+by_tokens l lines (t ∷ ts) is later = let long : length l.tokens ≡ suc (length ts) = ap length is in wide_first l lines (omega (arith, long))
+by_tokens l lines [] is later = later_wide l lines (later is)
+
+-- lines with a row have a line of one token at least
+rows_wide : (words : ContextualWords) (before : List (Option Item)) (lines : List Line) (rows rest : List Row) (r : Row) → AreRowsOf words before lines rows → rows ≡ r ∷ rest → 1 ≤ widest lines
+rows_wide words before [] rows rest r are e = let no : [] ≡ r ∷ rest = sym are ∙ e in absurd cc
+rows_wide words before (l ∷ lines) rows rest r are e = by_tokens l lines l.tokens refl
+    (λ is.
+    let none : are.0 ≡ [] = no_rows words before l are.0 is are.3 in
+    let all : are.1 ≡ r ∷ rest = ap (λ rs. rs ++ are.1) (sym none) ∙ sym are.2 ∙ e in
+    rows_wide words (items_behind before are.0) lines are.1 rest r are.4 all)
+
+-- where there is an item there is a row
+first_row : (rows : List Row) (xs rest : List Item) (x : Item) → AreItems rows xs → xs ≡ x ∷ rest → (r : Row) × (rs : List Row) × (rows ≡ r ∷ rs)
+first_row (r ∷ rs) xs rest x are e = (r, rs, refl)
+first_row [] [] rest x are e = absurd cc
+first_row [] (y ∷ ys) rest x are e = absurd are
 
 -- the lines of a program have a line of one token at least
-pub is_wide : (bytes : List ℕ) (t : Tree) (p : IsProgram bytes t) → 1 ≤ widest p.read.lines
-is_wide bytes t p = first_wide (outside p.read.words) p.read.lines p.items _ _ p.are_items p.program.items_are
+pub is_wide : (bytes : List ℕ) (t : Tree) (p : IsProgram bytes t) → 1 ≤ widest p.parsed.read.lines
+is_wide bytes t p =
+    let first = first_row p.parsed.rows p.program.0 _ _ p.program.1 p.program.2.items_are in
+    rows_wide p.parsed.read.words [] p.parsed.read.lines p.parsed.rows first.1 first.0 p.parsed.are_rows first.2

@@ -1,6 +1,7 @@
 pub mod Uncaught
 pub mod Kept
 pub mod Named
-pub mod Calls
-pub mod Forms
+pub mod Rows
 pub mod Compiled
+pub mod Calls
+pub mod Refusals

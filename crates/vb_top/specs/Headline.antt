@@ -182,7 +182,7 @@ CodeDidIt call file (Some r) runs = CodeRan call.input r runs.source runs.machin
 
 abbrev pub Numbers : (call : Call) (file : List ℕ) (report : Option Report) → RunsOf call file report → Type 0
 Numbers call file None runs = Unit {0}
-Numbers call file (Some r) runs = Counts r (widest runs.program.read.lines) runs.source
+Numbers call file (Some r) runs = Counts r (widest runs.program.parsed.read.lines) runs.source
 
 -- SCHEDULE
 

@@ -1,12 +1,11 @@
 // From the bytes of a file to a program.
-ghost use Rattle.std.specs.Prelude.{◌≡◌, ◌≤◌, List, length, IfOk, Err};
+ghost use Rattle.std.specs.Prelude.{◌≡◌, ◌≤◌, ℕ, true, false, length, IfOk, IsSome, Err, Some};
 ghost use Rattle.vb_diag.specs.declared.refusal.Refusal.{Refusal as OneRefusal};
-ghost use Rattle.vb_syntax.specs.declared.item.Item.{Item as OneItem};
-ghost use Rattle.vb_syntax.specs.ContextualWords.{OptionsApart};
 ghost use Rattle.vb_bound.specs.Tree.{Tree, IsOutlineOf};
-ghost use Rattle.vb_bind.specs.Grammar.{IsForm};
-ghost use Rattle.vb_parse_stmt.specs.Items.{IsItem};
-ghost use Rattle.vb_top.specs.Programs.{IsProgram, LeastBroken, AreItems, HaveForms, HasBuiltForm, IsFirstUnbuilt};
+ghost use Rattle.vb_bind.specs.declared.names.KnownNames.{KnownNames as OneKnown};
+ghost use Rattle.vb_ends.specs.Enders.{IsLeast};
+ghost use Rattle.vb_parse.specs.Where.{HasRow};
+ghost use Rattle.vb_top.specs.Programs.{IsProgram, LeastBroken, AreItems, AreProgram, IsBuilt, IsUnbuilt, IsFirstUnbuilt};
 ghost use Rattle.vb_top.specs.declared.compiling.CompileErr.TheVariants.{Memory as NoMemory};
 
 use sqlite_items::Items;
@@ -15,9 +14,8 @@ use vb_bind::{KnownNames, ReadErr, has_form, read_program};
 use vb_bound::Program;
 use vb_diag::{Refusal, Rule};
 use vb_lexer::{LexErr, lex};
-use vb_parse_expr::ParseErr;
-use vb_parse_stmt::{one_item, parse_stmt};
-use vb_syntax::{Context, ContextualWords, Item, Line, words_apart};
+use vb_parse::{ParseErr, parse};
+use vb_syntax::{ContextualWords, Item, Row, words_apart};
 use vb_text::{NameTable, names_stay};
 
 /// Why there is no program: the least rule that the file breaks, or want of memory.
@@ -35,11 +33,12 @@ impl From<AllocError> for CompileErr {
     }
 }
 
-/// The program of a file's bytes, of which there are at most 4,194,304: their logical lines, the items that stand on those, and
-/// then the small grammar over the items.
+/// The program of a file's bytes, of which there are at most 4,194,304: their logical lines, the rows of those, and the program
+/// of the rows' items.
 ///
-/// `Refused` comes exactly where they break a rule: the least lexical one; or else, where they are no program, the rule
-/// against forms that aren't built yet, at the first line that is of no built form, and at line 1 where each is of one.
+/// `Refused` comes exactly where they break a rule: the least lexical one; or else the least on lines and blocks, by line and
+/// number; or else, where the rows are no program, the rule against forms that aren't built yet, at the least line with a row of
+/// no built form, and at line 1 where each is of one.
 pub fn compile(alloc: Global, bytes: &[u8]) -> Result<Program, CompileErr>
     requires { length bytes.now ≤ 4194304 }
     ensures read { IfOk result (λ p. (t : Tree) × IsProgram bytes.now t × IsOutlineOf p t) }
@@ -56,79 +55,95 @@ pub fn compile(alloc: Global, bytes: &[u8]) -> Result<Program, CompileErr>
     names.are_apart();
     words_apart();
     names_stay();
-    let context = Context {
-        words,
-        in_iterator: false,
-    };
-    let items = items_of(alloc, &known, &context, lines.as_slice())?;
-    match read_program(alloc, &known, items.as_slice()) {
-        Ok(program) => Ok(program),
-        Err(ReadErr::Refused) => Err(CompileErr::Refused(unbuilt(0, 1))),
-        Err(ReadErr::Memory) => Err(CompileErr::Memory),
-    }
-}
-
-// The items that stand on the lines, one on each.
-fn items_of(
-    alloc: Global,
-    known: &KnownNames,
-    context: &Context,
-    lines: &[Line],
-) -> Result<Items<Item>, CompileErr>
-    requires { OptionsApart context.now.words }
-    ensures read { IfOk result (λ xs. AreItems context.now lines.now xs × HaveForms known.now xs) }
-    ensures alone { IfOk result (λ xs. (ys : List OneItem) → AreItems context.now lines.now ys → ys ≡ xs) }
-    ensures refused { (refusal : OneRefusal) → result ≡ Err (CompileErr.Refused refusal) → (refusal.rule ≡ 999) × IsFirstUnbuilt known.now context.now lines.now refusal.line }
-{
-    let mut items = Items::new(alloc);
-    for line in lines {
-        let item = item_of(alloc, known, context, line)?;
-        items.push(item)?;
-    }
-    Ok(items)
-}
-
-// The item that stands on the line, where it is of a built form.
-fn item_of(
-    alloc: Global,
-    known: &KnownNames,
-    context: &Context,
-    line: &Line,
-) -> Result<Item, CompileErr>
-    requires { OptionsApart context.now.words }
-    ensures read { IfOk result (λ x. IsItem context.now line.now.tokens x × IsForm known.now x) }
-    ensures alone { IfOk result (λ x. (y : OneItem) → IsItem context.now line.now.tokens y → y ≡ x) }
-    ensures refused { (refusal : OneRefusal) → result ≡ Err (CompileErr.Refused refusal) → (refusal.rule ≡ 999) × (refusal.line ≡ line.now.number) × (HasBuiltForm known.now context.now line.now.tokens → ⊥) }
-{
-    one_item();
-    let _ = line.tokens.len();
-    match parse_stmt(alloc, context, line) {
-        Ok(item) => built(known, line, item),
-        Err(ParseErr::Refused(_)) => Err(CompileErr::Refused(unbuilt(line.file, line.number))),
+    match parse(alloc, &words, 0, lines.as_slice()) {
+        Ok(rows) => program_of(alloc, &known, rows),
+        Err(ParseErr::Refused(refusal)) => Err(CompileErr::Refused(refusal)),
         Err(ParseErr::Memory) => Err(CompileErr::Memory),
     }
 }
 
-// The item itself, where its form is built.
-fn built(known: &KnownNames, line: &Line, item: Item) -> Result<Item, CompileErr>
-    ensures kept { IfOk result (λ x. (x ≡ item) × IsForm known.now x) }
-    ensures refused { (refusal : OneRefusal) → result ≡ Err (CompileErr.Refused refusal) → (refusal.rule ≡ 999) × (refusal.line ≡ line.now.number) × (IsForm known.now item → ⊥) }
+// The program that the rows are.
+fn program_of(alloc: Global, known: &KnownNames, rows: Items<Row>) -> Result<Program, CompileErr>
+    ensures read { IfOk result (λ p. (t : Tree) × AreProgram known.now rows t × IsOutlineOf p t) }
+    ensures refused { (refusal : OneRefusal) → result ≡ Err (CompileErr.Refused refusal) → (refusal.rule ≡ 999) × ((t : Tree) → AreProgram known.now rows t → ⊥) × IsFirstUnbuilt known.now rows refusal.line }
 {
-    if has_form(known, &item) {
-        return Ok(item);
+    match first_unbuilt(known, rows.as_slice()) {
+        Some(line) => Err(CompileErr::Refused(unbuilt(line))),
+        None => built_program(alloc, known, rows),
     }
-    drop(item);
-    Err(CompileErr::Refused(unbuilt(line.file, line.number)))
+}
+
+// The program of rows that are each of a built form.
+fn built_program(alloc: Global, known: &KnownNames, rows: Items<Row>) -> Result<Program, CompileErr>
+    requires { (line : ℕ) → HasRow (IsUnbuilt known.now) rows line → ⊥ }
+    ensures read { IfOk result (λ p. (t : Tree) × AreProgram known.now rows t × IsOutlineOf p t) }
+    ensures refused { (refusal : OneRefusal) → result ≡ Err (CompileErr.Refused refusal) → (refusal.rule ≡ 999) × ((t : Tree) → AreProgram known.now rows t → ⊥) × (refusal.line ≡ 1) }
+{
+    let items = items_of(alloc, rows)?;
+    match read_program(alloc, known, items.as_slice()) {
+        Ok(program) => Ok(program),
+        Err(ReadErr::Refused) => Err(CompileErr::Refused(unbuilt(1))),
+        Err(ReadErr::Memory) => Err(CompileErr::Memory),
+    }
+}
+
+// The least line with a row of no built form.
+fn first_unbuilt(known: &KnownNames, rows: &[Row]) -> Option<u32>
+    ensures { IsLeast (HasRow (IsUnbuilt known.now) rows.now) result }
+{
+    let mut least = None;
+    for row in rows {
+        if !is_built(known, row) {
+            least = Some(row.line.min(least.unwrap_or(row.line)));
+        }
+    }
+    least
+}
+
+// Whether the row is of a form that is built.
+fn is_built(known: &KnownNames, row: &Row) -> bool
+    ensures yes { result ≡ true → IsBuilt known.now row.now }
+    ensures no { result ≡ false → IsUnbuilt known.now row.now }
+{
+    match &row.item {
+        Some(item) => row.behind.is_end() && has_form(known, item),
+        None => false,
+    }
+}
+
+// The items of rows that are each of a built form.
+fn items_of(alloc: Global, rows: Items<Row>) -> Result<Items<Item>, AllocError>
+    requires { (known : OneKnown) × ((line : ℕ) → HasRow (IsUnbuilt known) rows line → ⊥) }
+    ensures { IfOk result (λ items. AreItems rows items) }
+{
+    let mut rest = rows;
+    let mut items = Vec::new(alloc);
+    while let Some(row) = rest.pop() {
+        items.push(item_of(row))?;
+    }
+    items.reverse();
+    Ok(Items::from_vec(items))
+}
+
+// The item of a row that has one.
+fn item_of(row: Row) -> Item
+    requires { IsSome row.item }
+    ensures { row.item ≡ Some result }
+{
+    match row.item {
+        Some(item) => item,
+        None => unreachable!(),
+    }
 }
 
 // The refusal of a form that isn't built yet.
-fn unbuilt(file: u32, line: u32) -> Refusal
+fn unbuilt(line: u32) -> Refusal
     ensures rule { result.rule ≡ 999 }
     ensures line { result.line ≡ line }
 {
     Refusal {
         rule: Rule::new(999),
-        file,
+        file: 0,
         line,
     }
 }

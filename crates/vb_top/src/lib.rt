@@ -3,12 +3,14 @@
 
 mod call;
 mod compiling;
+mod laws;
 mod outcome;
 mod running;
 mod telling;
 mod words;
 
 pub use call::{vb_command, vb_top};
+pub use laws::one_refusal;
 pub use outcome::{Finished, Report};
 
 #[cfg(test)]

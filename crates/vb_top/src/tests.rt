@@ -50,7 +50,7 @@ fn call(
 const RUN: &[&str] = &["run", "main.vb"];
 
 // Bodies of Main: what is written, what is told, the status.
-const BODIES: [(&str, &str, &str, u8); 17] = [
+const BODIES: [(&str, &str, &str, u8); 22] = [
     (
         "Dim i As Integer = 0;While i < 3;i = i + 1;Console.WriteLine(i * i);End While",
         "1\n4\n9\n",
@@ -66,7 +66,7 @@ const BODIES: [(&str, &str, &str, u8); 17] = [
     (
         "If 1 = 1 Then",
         "",
-        "main.vb(4): error V999: the form isn't built yet\n",
+        "main.vb(4): error V031: a block has no end, or an end has no block\n",
         1,
     ),
     (
@@ -132,8 +132,38 @@ const BODIES: [(&str, &str, &str, u8); 17] = [
     ),
     (
         "Console.WriteLine(1) : Console.WriteLine(2)",
+        "1\n2\n",
+        "",
+        0,
+    ),
+    (
+        "If 1 = 1 Then Console.WriteLine(1)",
         "",
         "main.vb(4): error V999: the form isn't built yet\n",
+        1,
+    ),
+    (
+        "Dim i As Integer;x = = 1",
+        "",
+        "main.vb(5): error V030: the line isn't of the grammar\n",
+        1,
+    ),
+    (
+        "Dim d As Date",
+        "",
+        "main.vb(4): error V032: the form is outside the profile\n",
+        1,
+    ),
+    (
+        "End While",
+        "",
+        "main.vb(4): error V031: a block has no end, or an end has no block\n",
+        1,
+    ),
+    (
+        "If 1 = 1 Then;x = = 1",
+        "",
+        "main.vb(4): error V031: a block has no end, or an end has no block\n",
         1,
     ),
     (
@@ -162,8 +192,8 @@ fn bodies_run(rt: HostRuntime) -> Result<(), Fail> {
     Ok(())
 }
 
-// Files that break a lexical rule or have forms that aren't built, and what is told.
-const BROKEN: [(&[u8], &str); 7] = [
+// Files that break a rule or have forms that aren't built, and what is told.
+const BROKEN: [(&[u8], &str); 12] = [
     (
         b"\xffImports System",
         "main.vb(1): error V001: the file isn't UTF-8\n",
@@ -182,12 +212,32 @@ const BROKEN: [(&[u8], &str); 7] = [
     ),
     (b"", "main.vb(1): error V999: the form isn't built yet\n"),
     (
-        b"\nImports System\nModule M\nClass C\nx y",
+        b"\nImports System\nModule M\nClass C\nEnd Class\nEnd Module",
         "main.vb(4): error V999: the form isn't built yet\n",
     ),
     (
         b"\nImports System\nModule M\nSub Main()",
-        "main.vb(1): error V999: the form isn't built yet\n",
+        "main.vb(3): error V031: a block has no end, or an end has no block\n",
+    ),
+    (
+        b"Class C\nx y\nEnd Class",
+        "main.vb(2): error V030: the line isn't of the grammar\n",
+    ),
+    (
+        b"Option Strict Off\nImports System\nModule M\nSub Main()\nEnd Sub\nEnd Module",
+        "main.vb(1): error V035: the option setting isn't supported\n",
+    ),
+    (
+        b"Imports System\nModule M\nPublic Private Sub Main()\nEnd Sub\nEnd Module",
+        "main.vb(3): error V036: modifiers are repeated or exclude each other\n",
+    ),
+    (
+        b"Imports System\nModule M\nSub Main(a As Integer)\nEnd Sub\nEnd Module",
+        "main.vb(3): error V999: the form isn't built yet\n",
+    ),
+    (
+        b"x = = 1\ny = &HG",
+        "main.vb(2): error V004: a number literal is malformed or doesn't fit\n",
     ),
 ];
 
@@ -199,6 +249,31 @@ fn broken_rules_are_told(rt: HostRuntime) -> Result<(), Fail> {
         assert_eq!(rt; seen.err.bytes(), err.as_bytes());
         assert_eq!(rt; seen.status.code(), 1);
         assert_eq!(rt; seen.out.bytes().len(), 0);
+    }
+    Ok(())
+}
+
+// A number in brackets inside a Sub of a module: so many of them, and what is told.
+const BRACKETS: [(u32, &str); 2] = [
+    (98, "main.vb(4): error V999: the form isn't built yet\n"),
+    (99, "main.vb(4): error V033: nesting is deeper than 100\n"),
+];
+
+#[test]
+fn deep_brackets_are_told(rt: HostRuntime) -> Result<(), Fail> {
+    for (count, err) in BRACKETS {
+        let mut body = String::from_str(rt.alloc(), "x = ")?;
+        for _ in 0..count {
+            body.push_str("(")?;
+        }
+        body.push_str("1")?;
+        for _ in 0..count {
+            body.push_str(")")?;
+        }
+        let file = file_of(rt.alloc(), body.as_str())?;
+        let seen = call(rt.alloc(), RUN, file, &[], 64)?;
+        assert_eq!(rt; seen.err.bytes(), err.as_bytes());
+        assert_eq!(rt; seen.status.code(), 1);
     }
     Ok(())
 }

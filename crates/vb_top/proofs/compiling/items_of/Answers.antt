@@ -1,24 +1,22 @@
-use Rattle.std.proofs.Common.{◌≡◌, ◌+◌, ◌≤◌, ◌<◌, [], ◌∷◌, ◌++◌, drop, length, sym, ap, subst, ◌∙◌, arith, rules}
-use Rattle.std.proofs.Math.ListN.{drop_of_length-le}
-use Rattle.std.proofs.lemmas.List.{drop_more}
+use Rattle.std.proofs.Common.{◌≡◌, List, [], ◌∷◌, ◌++◌, reverse, sym, ap, subst, ◌∙◌, rules}
+use Rattle.std.proofs.lemmas.List.{reverse-append}
 use Rattle.vb_syntax.specs.declared.item.Item.{Item}
-use Rattle.vb_top.proofs.Forms.{ReadTo, one_read, all_read}
+use Rattle.vb_top.specs.Programs.{AreItems}
+use Rattle.vb_top.proofs.Rows.{AreTaken, has_item, one_taken, all_taken}
 use Rattle.vb_top.proofs.compiling.items_of.Goals as goal
 
-pub loop-line-preserved : goal.loop-line-preserved
-loop-line-preserved c =
-    let lines = c.args.lines.now in
-    let at = c.loop-line.line-index in
-    let inside : at < length lines = omega arith in
-    let split : drop at lines ≡ c.line-item.result ∷ drop (at + 1) lines =
-    drop_more lines at c.line-item.result inside ∙ ap (λ l. l ∷ drop (at + 1) lines) (sym c.line-item.is) in
-    let grown : c.push.new.self ≡ c.loop-line.items ++ c.in_ok-item.item ∷ [] = search rules in
-    subst (λ xs. ReadTo c.args.known.now c.args.context.now lines (drop (at + 1) lines) xs) (sym grown)
-    (one_read c.args.known.now c.args.context.now lines (drop at lines) (drop (at + 1) lines) c.line-item.result c.loop-line.items c.in_ok-item.item split c.loop-line.invariant
-    c.in_ok-item.ensures.read.0 c.in_ok-item.ensures.read.1 c.in_ok-item.ensures.alone)
+pub loop-row-preserved : goal.loop-row-preserved
+loop-row-preserved c =
+    let earlier = c.loop-row.items.items in
+    let grown : c.push.new.self.items ≡ earlier ++ c.item_of.result ∷ [] = search rules in
+    let back : reverse c.push.new.self.items ≡ c.item_of.result ∷ reverse earlier = ap reverse grown ∙ reverse-append earlier (c.item_of.result ∷ []) in
+    subst (λ (xs : List Item). AreTaken c.args.rows c.pop.new.self xs) (sym back)
+    (one_taken c.args.rows c.loop-row.rest c.pop.new.self c.in-Some.row c.item_of.result (reverse earlier) c.requires c.loop-row.invariant c.in-Some.ensures c.item_of.ensures)
 
-pub returns-clause-read : goal.returns-clause-read
-returns-clause-read c =
-    let lines = c.args.lines.now in
-    let none : drop c.loop-line.line-index lines ≡ [] = drop_of_length-le lines (omega arith) in
-    (all_read c.args.known.now c.args.context.now lines (drop c.loop-line.line-index lines) c.loop-line.items none c.loop-line.invariant).0
+pub item_of-requires : goal.item_of-requires
+item_of-requires c = has_item c.args.rows c.loop-row.rest c.pop.new.self c.in-Some.row (reverse c.loop-row.items.items) c.requires c.loop-row.invariant c.in-Some.ensures
+
+pub returns : goal.returns
+returns c =
+    subst (λ (xs : List Item). AreItems c.args.rows xs) (sym (c.from_vec.ensures ∙ c.reverse.ensures.items))
+    (all_taken c.args.rows c.loop-row.rest (reverse c.loop-row.items.items) c.in_default.ensures.0 c.loop-row.invariant)

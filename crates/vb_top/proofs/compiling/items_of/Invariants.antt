@@ -1,6 +1,9 @@
-use Rattle.std.proofs.Common.{drop}
-use Rattle.vb_top.proofs.Forms.{ReadTo}
+use Rattle.std.proofs.Common.{reverse, length}
+use Rattle.vb_top.proofs.Rows.{AreTaken}
 use Rattle.vb_top.proofs.compiling.items_of.Given as goal
 
-abbrev pub invariant-loop-line : goal.invariant-loop-line
-invariant-loop-line l = ReadTo l.known l.context l.lines (drop l.line-index l.lines) l.items
+abbrev pub invariant-loop-row : goal.invariant-loop-row
+invariant-loop-row l = AreTaken l.fn.rows l.rest (reverse l.items.items)
+
+abbrev pub decreases-loop-row : goal.decreases-loop-row
+decreases-loop-row l = length l.rest

@@ -1,0 +1,101 @@
+-- The least rule that bytes break is one.
+use Rattle.std.proofs.Common.{◌≡◌, ◌⊎◌, inl, inr, ℕ, ◌<◌, ◌≤◌, List, [], ◌∷◌, length, Option, Some, None, refl, sym, ap, subst, ◌∙◌, arith}
+use Rattle.std.specs.Prelude.{nat_le, unwrap_or}
+use Rattle.std.specs.List.{All}
+use Rattle.std.proofs.lemmas.List.Elements.{All-nil, All-cons}
+use Rattle.std.proofs.lemmas.Bool.Decides.{nat_tests}
+use Rattle.vb_text.specs.Names.{AreApart}
+use Rattle.vb_syntax.specs.declared.tokens.Line.{Line}
+use Rattle.vb_syntax.specs.declared.item.Row.{Row}
+use Rattle.vb_syntax.specs.declared.words.ContextualWords.{ContextualWords}
+use Rattle.vb_syntax.specs.ContextualWords.{AreWords, OptionsApart}
+use Rattle.vb_lexer.specs.Lines.{Item, AreLines, SomeLineBreaks, line_number, token_count, groups_of}
+use Rattle.vb_lexer.proofs.Groups.{tokens_counted}
+use Rattle.vb_lexer.proofs.Unique.{never_both, refusal_unique}
+use Rattle.vb_ends.specs.Enders.{IsLeast}
+use Rattle.vb_parse_expr.specs.TypeReading.{most_tokens}
+use Rattle.vb_rows.specs.Files.{AreRowsOf}
+use Rattle.vb_parse.specs.Least.{IsLeastBroken}
+use Rattle.vb_parse.specs.Rules.{BreaksLines}
+use Rattle.vb_parse.specs.Where.{HasRow}
+use Rattle.vb_bind.specs.declared.names.KnownNames.{KnownNames}
+use Rattle.vb_bind.proofs.Trees.{by_test}
+use Rattle.vb_top.specs.Programs.{HasLines, HasRows, IsUnbuilt, IsFirstUnbuilt, LeastBroken}
+use Rattle.vb_top.proofs.Compiled.{same_lines}
+
+-- ONE LEAST
+
+not_after : (a b c d : ℕ) → (a < c) ⊎ ((a ≡ c) × (b ≤ d)) → (c < a) ⊎ ((c ≡ a) × (d ≤ b)) → (a ≡ c) × (b ≡ d)
+not_after a b c d (inl h) (inl k) = absurd (omega (arith, h, k))
+not_after a b c d (inl h) (inr k) = absurd (omega (arith, h, k.0))
+not_after a b c d (inr h) (inl k) = absurd (omega (arith, h.0, k))
+not_after a b c d (inr h) (inr k) = (h.0, omega (arith, h.1, k.1))
+
+one_broken : (Breaks : ℕ → ℕ → Type 0) (a b c d : ℕ) → IsLeastBroken Breaks a b → IsLeastBroken Breaks c d → (a ≡ c) × (b ≡ d)
+one_broken Breaks a b c d h k = not_after a b c d (h.least c d k.broken) (k.least a b h.broken)
+
+one_least : (Is : ℕ → Type 0) (a b : Option ℕ) → IsLeast Is a → IsLeast Is b → a ≡ b
+one_least Is None None h k = refl
+one_least Is None (Some y) h k = absurd (h y k.0)
+one_least Is (Some x) None h k = absurd (k x h.0)
+one_least Is (Some x) (Some y) h k = let one = h.1 y k.0 in let other = k.1 x h.0 in let same : x ≡ y = omega arith in ap (λ n. Some n) same
+
+-- SHORT LINES
+
+abbrev IsShort : Line → Type 0
+IsShort l = length l.tokens ≤ most_tokens
+
+short_line : (table : List (List ℕ)) (group : List Item) (gs : List (List Item)) (l : Line) → token_count group ≡ length l.tokens
+    → ((line rule : ℕ) → SomeLineBreaks (group ∷ gs) line rule → ⊥) → IsShort l
+short_line table group gs l count sound = by_test (nat_le (length l.tokens) 4096) _
+    (λ e. let le : length l.tokens ≤ 4096 = grind (arith, nat_tests, e) in omega (arith, le))
+    (λ e. let over : 4096 < length l.tokens = grind (arith, nat_tests, e) in absurd (sound (line_number group) 7 (inl (refl, inr (refl, omega (arith, over, count))))))
+
+-- lines that break no lexical rule are short
+short_lines : (table : List (List ℕ)) (gs : List (List Item)) (ls : List Line) → AreLines table 0 gs ls → ((line rule : ℕ) → SomeLineBreaks gs line rule → ⊥) → All IsShort ls
+short_lines table [] [] are sound = All-nil IsShort
+short_lines table [] (l ∷ ls) are sound = absurd are
+short_lines table (g ∷ gs) [] are sound = absurd are
+short_lines table (g ∷ gs) (l ∷ ls) are sound =
+    All-cons IsShort l ls (short_line table g gs l (tokens_counted table g l.tokens are.0.2) sound) (short_lines table gs ls are.1 (λ n r h. sound n r (inr h)))
+
+lines_short : (bytes : List ℕ) (read : HasLines bytes) → All IsShort read.lines
+lines_short bytes read =
+    let lexed = read.lexed.lexed in
+    short_lines read.names (groups_of lexed.parts) read.lines lexed.lines_are (λ n r h. lexed.sound n r (inl h))
+
+-- ONE REFUSAL
+
+module _ (words_apart : (table : List (List ℕ)) (words : ContextualWords) → AreApart table → AreWords table words → OptionsApart words)
+    (one_list : (words : ContextualWords) (lines : List Line) (rows other : List Row) → OptionsApart words → All IsShort lines → AreRowsOf words [] lines rows → AreRowsOf words [] lines other → rows ≡ other)
+    (bytes : List ℕ) where
+  same_rows : (a b : HasRows bytes) → a.rows ≡ b.rows
+  same_rows a b =
+      let same = same_lines bytes a.read b.read in
+      let here : AreRowsOf a.read.words [] b.read.lines a.rows = subst (λ (ls : List Line). AreRowsOf a.read.words [] ls a.rows) same.0 a.are_rows in
+      let there : AreRowsOf b.read.words [] b.read.lines a.rows = subst (λ (w : ContextualWords). AreRowsOf w [] b.read.lines a.rows) same.2 here in
+      one_list b.read.words b.read.lines a.rows b.rows (words_apart b.read.names b.read.words b.read.apart b.read.are_words) (lines_short bytes b.read) there b.are_rows
+
+  same_broken : (a b : HasLines bytes) (line rule : ℕ) → IsLeastBroken (BreaksLines a.words a.lines) line rule → IsLeastBroken (BreaksLines b.words b.lines) line rule
+  same_broken a b line rule h =
+      let same = same_lines bytes a b in
+      subst (λ (w : ContextualWords). IsLeastBroken (BreaksLines w b.lines) line rule) same.2 (subst (λ (ls : List Line). IsLeastBroken (BreaksLines a.words ls) line rule) same.0 h)
+
+  same_first : (a b : HasRows bytes) (line other : ℕ) → IsFirstUnbuilt a.read.known a.rows line → IsFirstUnbuilt b.read.known b.rows other → line ≡ other
+  same_first a b line other h k =
+      let same = same_lines bytes a.read b.read in
+      let here : IsLeast (HasRow (IsUnbuilt a.read.known) b.rows) h.0 = subst (λ (rs : List Row). IsLeast (HasRow (IsUnbuilt a.read.known) rs) h.0) (same_rows a b) h.1 in
+      let there : IsLeast (HasRow (IsUnbuilt b.read.known) b.rows) h.0 = subst (λ (known : KnownNames). IsLeast (HasRow (IsUnbuilt known) b.rows) h.0) same.1 here in
+      let least : h.0 ≡ k.0 = one_least (HasRow (IsUnbuilt b.read.known) b.rows) h.0 k.0 there k.1 in
+      h.2 ∙ ap (λ (o : Option ℕ). unwrap_or o 1) least ∙ sym k.2
+
+  pub one : (line rule other_line other_rule : ℕ) → LeastBroken bytes line rule → LeastBroken bytes other_line other_rule → (line ≡ other_line) × (rule ≡ other_rule)
+  one line rule other_line other_rule (inl h) (inl k) = refusal_unique bytes line rule other_line other_rule h k
+  one line rule other_line other_rule (inl h) (inr (inl k)) = absurd (never_both k.0.names 0 bytes k.0.lines line rule k.0.lexed.lexed h)
+  one line rule other_line other_rule (inl h) (inr (inr k)) = absurd (never_both k.0.read.names 0 bytes k.0.read.lines line rule k.0.read.lexed.lexed h)
+  one line rule other_line other_rule (inr (inl h)) (inl k) = absurd (never_both h.0.names 0 bytes h.0.lines other_line other_rule h.0.lexed.lexed k)
+  one line rule other_line other_rule (inr (inr h)) (inl k) = absurd (never_both h.0.read.names 0 bytes h.0.read.lines other_line other_rule h.0.read.lexed.lexed k)
+  one line rule other_line other_rule (inr (inl h)) (inr (inl k)) = one_broken (BreaksLines k.0.words k.0.lines) line rule other_line other_rule (same_broken h.0 k.0 line rule h.1) k.1
+  one line rule other_line other_rule (inr (inl h)) (inr (inr k)) = absurd (k.0.sound line rule (same_broken h.0 k.0.read line rule h.1).broken)
+  one line rule other_line other_rule (inr (inr h)) (inr (inl k)) = absurd (h.0.sound other_line other_rule (same_broken k.0 h.0.read other_line other_rule k.1).broken)
+  one line rule other_line other_rule (inr (inr h)) (inr (inr k)) = (same_first h.0 k.0 line other_line h.3 k.3, h.1 ∙ sym k.1)
