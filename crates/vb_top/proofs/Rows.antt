@@ -15,7 +15,7 @@ use Rattle.vb_bound.specs.declared.tree.Operand.{Operand}
 use Rattle.vb_bound.specs.Tree.{Tree, lines_of}
 use Rattle.vb_bind.specs.declared.names.KnownNames.{KnownNames}
 use Rattle.vb_bind.specs.Grammar.{IsProgramOf, IsForm, imports, module_header, main_header, declaration, of_line, main_end, module_end, line_item, dim_items, AreFitLines, AreFitInitials}
-use Rattle.vb_top.specs.Programs.{AreItems, AreProgram, IsBuilt, IsUnbuilt}
+use Rattle.vb_top.specs.Programs.{AreItems, AreProgram, IsUnbuilt}
 
 -- THE ITEMS OF A PROGRAM HAVE BUILT FORMS
 

@@ -1,4 +1,4 @@
-use Rattle.std.proofs.Common.{◌≡◌, List, ap, sym, subst, ◌∙◌}
+use Rattle.std.proofs.Common.{◌≡◌, List, ap, sym, subst}
 use Rattle.std.specs.Prelude.{Err}
 use Rattle.vb_diag.specs.declared.refusal.Refusal.{Refusal}
 use Rattle.vb_syntax.specs.declared.item.Item.{Item}

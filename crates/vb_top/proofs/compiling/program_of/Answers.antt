@@ -1,4 +1,4 @@
-use Rattle.std.proofs.Common.{◌≡◌, ℕ, List, Option, Some, None, ap, sym, subst, ◌∙◌, refl}
+use Rattle.std.proofs.Common.{◌≡◌, List, Some, None, subst}
 use Rattle.vb_diag.specs.declared.refusal.Refusal.{Refusal}
 use Rattle.vb_syntax.specs.declared.item.Row.{Row}
 use Rattle.vb_ends.specs.Enders.{IsLeast}
