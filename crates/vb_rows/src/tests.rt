@@ -1,4 +1,6 @@
 // Files as they are read, each told in words.
+ghost use Rattle.std.specs.Prelude.{IfOk};
+ghost use Rattle.vb_syntax.specs.ContextualWords.{OptionsApart};
 
 use super::*;
 use sqlite_items::Items;
@@ -6,6 +8,7 @@ use std::alloc::{AllocError, Global};
 use std::test::Fail;
 use vb_syntax::{
     ContextualWords, IntegerLiteral, IntegerType, Item, Joint, Keyword, Line, Row, Symbol, Token,
+    words_apart,
 };
 use vb_text::NameTable;
 
@@ -82,10 +85,19 @@ fn line_of(
     })
 }
 
+fn words_of(names: &mut NameTable) -> Result<ContextualWords, AllocError>
+    ensures { IfOk result (λ words. OptionsApart words) }
+{
+    let words = ContextualWords::new(names)?;
+    names.are_apart();
+    words_apart();
+    Ok(words)
+}
+
 // What was read of the lines, which have these numbers.
 fn read(alloc: Global, numbered: &[(u32, &str)]) -> Result<FileRows, AllocError> {
     let mut names = NameTable::new(alloc)?;
-    let words = ContextualWords::new(&mut names)?;
+    let words = words_of(&mut names)?;
     let mut lines = Items::new(alloc);
     for (number, text) in numbered {
         lines.push(line_of(alloc, &mut names, *number, text)?)?;
