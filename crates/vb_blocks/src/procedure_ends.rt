@@ -1,0 +1,118 @@
+// The end of a procedure or of a constructor.
+ghost use Rattle.std.specs.Prelude.{◌≡◌, ◌&&◌, not};
+ghost use Rattle.vb_syntax.specs.Items.{must_override as has_no_block};
+ghost use Rattle.vb_blocks.specs.Steps.{Gives};
+ghost use Rattle.vb_blocks.specs.Steps as spec;
+ghost use Rattle.vb_blocks.specs.Trees.{procedure as procedure_form};
+ghost use Rattle.vb_blocks.specs.Words as words;
+
+use crate::fault::Fault;
+use crate::frame::Turn;
+use crate::turns::{closes_member, refuse_behind, refuse_item};
+use crate::words::{is_word, word_of};
+use sqlite_items::Items;
+use std::alloc::Global;
+use vb_syntax::{
+    Block, BlockWord, DeclarationLine, Item, Member, MemberForm, Modifier, must_override,
+};
+
+/// An item behind the statements of a procedure.
+pub fn procedure(
+    alloc: Global,
+    start: u32,
+    header: Item,
+    body: Block,
+    item: Item,
+) -> Result<Turn, Fault>
+    ensures { Gives (λ t. t) result (spec.procedure_whole start (procedure_form header body item)) }
+{
+    match header {
+        Item::Declares(declaration) => {
+            procedure_end(alloc, start, declaration, body, word_of(item))
+        }
+        other => {
+            let _fault = refuse_item(other);
+            Err(refuse_behind(body, item))
+        }
+    }
+}
+
+fn procedure_end(
+    alloc: Global,
+    line: u32,
+    declaration: DeclarationLine,
+    body: Block,
+    word: Option<BlockWord>,
+) -> Result<Turn, Fault>
+    ensures { Gives (λ t. t) result (spec.procedure_end line declaration body word) }
+{
+    match declaration {
+        DeclarationLine::Sub(modifiers, signature, implements) => {
+            let may_end = ends(BlockWord::Sub, word, &modifiers);
+            let form = MemberForm::Sub {
+                signature,
+                implements,
+                body: Some(body),
+            };
+            closes_member(
+                alloc,
+                may_end,
+                Member {
+                    line,
+                    modifiers,
+                    form,
+                },
+            )
+        }
+        DeclarationLine::Constructor(modifiers, parameters, implements) => {
+            let may_end = ends(BlockWord::Sub, word, &modifiers);
+            let form = MemberForm::Constructor {
+                parameters,
+                implements,
+                body: Some(body),
+            };
+            closes_member(
+                alloc,
+                may_end,
+                Member {
+                    line,
+                    modifiers,
+                    form,
+                },
+            )
+        }
+        DeclarationLine::Function {
+            modifiers,
+            kind,
+            signature,
+            result,
+            implements,
+        } => {
+            let may_end = ends(BlockWord::Function, word, &modifiers);
+            let form = MemberForm::Function {
+                kind,
+                signature,
+                result,
+                implements,
+                body: Some(body),
+            };
+            closes_member(
+                alloc,
+                may_end,
+                Member {
+                    line,
+                    modifiers,
+                    form,
+                },
+            )
+        }
+        other => Err(refuse_behind(body, Item::Declares(other))),
+    }
+}
+
+// Whether the word ends a procedure with these modifiers.
+fn ends(wanted: BlockWord, word: Option<BlockWord>, modifiers: &Items<Modifier>) -> bool
+    ensures { result ≡ (words.is_word wanted word && not (has_no_block modifiers.now)) }
+{
+    is_word(wanted, word) && !must_override(modifiers.as_slice())
+}

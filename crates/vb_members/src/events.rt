@@ -1,0 +1,121 @@
+// Events with accessors of their own.
+ghost use Rattle.std.specs.Prelude.{◌≡◌};
+ghost use Rattle.vb_blocks.specs.Steps.{Gives};
+ghost use Rattle.vb_blocks.specs.Steps as spec;
+
+use sqlite_items::{Boxed, Items};
+use std::alloc::Global;
+use vb_blocks::{
+    AccessorHeader, EventParts, Fault, Frame, Scope, Turn, begun, closes_member, given, refuse,
+    refuse_in,
+};
+use vb_syntax::{
+    BlockWord, DeclarationLine, EventAccessor, EventAccessorKind, Item, Member, MemberForm,
+    Parameter,
+};
+
+/// An item in an event with accessors.
+pub fn event_turn(
+    alloc: Global,
+    parts: Boxed<EventParts>,
+    line: u32,
+    item: Item,
+) -> Result<Turn, Fault>
+    ensures { Gives (λ t. t) result (spec.event_turn parts line item) }
+{
+    match item {
+        Item::Declares(declaration) => event_declares(alloc, parts, line, declaration),
+        Item::End(word) => event_end(alloc, parts, line, word),
+        other => Err(refuse_in(Frame::Event(parts), other)),
+    }
+}
+
+fn event_declares(
+    alloc: Global,
+    parts: Boxed<EventParts>,
+    line: u32,
+    declaration: DeclarationLine,
+) -> Result<Turn, Fault>
+    ensures { Gives (λ t. t) result (spec.event_turn parts line (Item.Declares declaration)) }
+{
+    match declaration {
+        DeclarationLine::EventAccessor(kind, parameters) => {
+            event_accessor(alloc, parts, line, kind, parameters)
+        }
+        other => Err(refuse_in(Frame::Event(parts), Item::Declares(other))),
+    }
+}
+
+fn event_accessor(
+    alloc: Global,
+    parts: Boxed<EventParts>,
+    line: u32,
+    kind: EventAccessorKind,
+    parameters: Items<Parameter>,
+) -> Result<Turn, Fault>
+    ensures { Gives (λ t. t) result (spec.event_turn parts line (Item.Declares (DeclarationLine.EventAccessor kind parameters))) }
+{
+    let is_free = takes_accessor(kind, parts.get());
+    let header = AccessorHeader::Event(line, kind, parameters);
+    let accessor = begun(alloc, Scope::Accessor(header));
+    given(is_free, Turn::Opens(Frame::Event(parts), accessor))
+}
+
+/// Whether the event has no accessor of the kind yet.
+pub fn takes_accessor(kind: EventAccessorKind, parts: &EventParts) -> bool
+    ensures { result ≡ spec.takes_accessor kind parts.now }
+{
+    match kind {
+        EventAccessorKind::AddHandler => is_missing(&parts.add_handler),
+        EventAccessorKind::RemoveHandler => is_missing(&parts.remove_handler),
+        EventAccessorKind::RaiseEvent => is_missing(&parts.raise_event),
+    }
+}
+
+fn is_missing(accessor: &Option<EventAccessor>) -> bool
+    ensures { result ≡ spec.is_missing accessor.now }
+{
+    accessor.is_none()
+}
+
+fn event_end(
+    alloc: Global,
+    parts: Boxed<EventParts>,
+    line: u32,
+    word: BlockWord,
+) -> Result<Turn, Fault>
+    ensures { Gives (λ t. t) result (spec.event_turn parts line (Item.End word)) }
+{
+    match word {
+        BlockWord::Event => event_whole(alloc, parts.into_inner()),
+        _ => Err(refuse(Turn::Goes(Frame::Event(parts)))),
+    }
+}
+
+fn event_whole(alloc: Global, parts: EventParts) -> Result<Turn, Fault>
+    ensures { Gives (λ t. t) result (spec.event_whole parts parts.add_handler parts.remove_handler parts.raise_event) }
+{
+    match custom_event(parts) {
+        Some(member) => closes_member(alloc, true, member),
+        None => Err(Fault::Grammar),
+    }
+}
+
+fn custom_event(parts: EventParts) -> Option<Member>
+    ensures { result ≡ spec.custom_event parts parts.add_handler parts.remove_handler parts.raise_event }
+{
+    let add_handler = parts.add_handler?;
+    let remove_handler = parts.remove_handler?;
+    let raise_event = parts.raise_event?;
+    Some(Member {
+        line: parts.line,
+        modifiers: parts.modifiers,
+        form: MemberForm::CustomEvent {
+            name: parts.name,
+            delegate: parts.delegate,
+            add_handler,
+            remove_handler,
+            raise_event,
+        },
+    })
+}

@@ -1,0 +1,13 @@
+//! From the rows of a file to its syntax tree (Visual Basic Language Specification 11.0, 1.1, 6, 7, 9 and 10).
+#![tactic(auto)]
+
+mod laws;
+mod lines;
+mod step;
+mod tree;
+
+pub use laws::one_tree;
+pub use tree::{BuildErr, build};
+
+#[cfg(test)]
+mod tests;
