@@ -1,67 +1,93 @@
-// The rows of a file's lines.
-ghost use Rattle.std.specs.Prelude.{◌≡◌, ◌∷◌, ℕ, List, [], length, IfOk, Err, None, Some};
+// The syntax tree of a file's lines.
+ghost use Rattle.std.specs.Prelude.{◌≡◌, ℕ, List, length, IfOk, Ok, Err, None, Some};
 ghost use Rattle.vb_diag.specs.declared.refusal.Refusal.{Refusal as OneRefusal};
 ghost use Rattle.vb_parse_expr.specs.declared.error.ParseErr.TheVariants as failure;
-ghost use Rattle.vb_syntax.specs.declared.item.Row.{Row as OneRow};
+ghost use Rattle.vb_syntax.specs.declared.declaration.SourceFile.{SourceFile as Tree};
 ghost use Rattle.vb_syntax.specs.ContextualWords.{OptionsApart};
-ghost use Rattle.vb_rows.specs.Files.{AreRowsOf};
-ghost use Rattle.vb_parse.specs.Broken.{IsLeastOf};
+ghost use Rattle.vb_tree.specs.declared.tree.BuildErr.{BuildErr as Fault};
+ghost use Rattle.vb_tree.specs.declared.tree.BuildErr.TheVariants as fault;
+ghost use Rattle.vb_parse.specs.Broken as spec;
+ghost use Rattle.vb_parse.specs.Broken.{BreaksJudged, IsLeastOf};
 ghost use Rattle.vb_parse.specs.Least.{IsLeastBroken};
-ghost use Rattle.vb_parse.specs.Rules.{BreaksLines, BreaksRowRule};
+ghost use Rattle.vb_parse.specs.Rules.{BreaksLines, IsTreeOf};
 
 use crate::broken::{Broken, broken_at, lesser, told_by};
+use crate::front::built_front;
 use crate::modifiers::first_at_odds;
 use crate::options::first_unsupported;
-use sqlite_items::Items;
 use std::alloc::{AllocError, Global};
-use vb_ends::{first_too_deep, first_unended};
+use vb_ends::{first_too_deep, first_unended, open_blocks_break};
 use vb_parse_expr::ParseErr;
 use vb_rows::{FileRows, read_rows};
-use vb_syntax::{ContextualWords, Line, Row};
+use vb_syntax::{ContextualWords, Line, Row, SourceFile};
+use vb_tree::{BuildErr, one_tree};
 
-/// The rows of the logical lines of a file, of which there may be any number: what was read of each line, or of each part of it
-/// (Visual Basic Language Specification 11.0, 1.1). `file` is the file's number, for the refusal.
+/// The syntax tree of the logical lines of a file, of which there may be any number (Visual Basic Language Specification 11.0, 1.1, 6, 7, 9
+/// and 10). `file` is the file's number, from 0, for the tree and for the refusal.
 ///
 /// # Errors
 ///
 /// `Refused` comes exactly where the lines break a rule on lines and blocks, with the least by line and then by number. `Memory` comes
-/// where there is no memory for the rows.
+/// where there is no memory for the rows or the tree.
 pub fn parse(
     alloc: Global,
     words: &ContextualWords,
     file: u32,
     lines: &[Line],
-) -> Result<Items<Row>, ParseErr>
+) -> Result<SourceFile, ParseErr>
     requires { OptionsApart words.now }
-    ensures read { IfOk result (λ rows. AreRowsOf words.now [] lines.now rows) }
-    ensures alone { IfOk result (λ rows. (others : List OneRow) → AreRowsOf words.now [] lines.now others → others ≡ rows) }
-    ensures sound { IfOk result (λ rows. (line rule : ℕ) → BreaksLines words.now lines.now line rule → ⊥) }
+    ensures tree { IfOk result (λ tree. IsTreeOf words.now file lines.now tree) }
+    ensures alone { IfOk result (λ tree. (other : Tree) → IsTreeOf words.now file lines.now other → other ≡ tree) }
+    ensures sound { IfOk result (λ tree. (line rule : ℕ) → BreaksLines words.now lines.now line rule → ⊥) }
     ensures refused { (r : OneRefusal) → result ≡ Err (failure.Refused r) → (r.file ≡ file) × IsLeastBroken (BreaksLines words.now lines.now) r.line r.rule }
 {
+    one_tree();
+    open_blocks_break();
     let FileRows {
         rows,
         brackets,
         refusal,
     } = read_rows(alloc, words, lines)?;
     let judged = judge(alloc, rows.as_slice(), brackets.as_slice())?;
-    unless_broken(file, lesser(told_by(refusal), judged), rows)
+    let judged = lesser(told_by(refusal), judged);
+    let built = built_front(alloc, file, rows, &judged);
+    let least = lesser(broken_at(34, misplaced_in(&built)), judged);
+    unless_broken(file, least, built)
 }
 
-// The rows, where no rule is broken.
-fn unless_broken(file: u32, least: Option<Broken>, rows: Items<Row>) -> Result<Items<Row>, ParseErr>
-    ensures kept { IfOk result (λ kept. (kept ≡ rows) × (least ≡ None)) }
-    ensures refused { (r : OneRefusal) → result ≡ Err (failure.Refused r) → (r.file ≡ file) × (least ≡ Some (record { line = r.line; rule = r.rule })) }
+// The line of the row that can't stand where it is, if there is no tree for that.
+fn misplaced_in(built: &Result<SourceFile, BuildErr>) -> Option<u32>
+    ensures { result ≡ spec.misplaced_in built.now }
 {
-    match least {
-        None => Ok(rows),
-        Some(broken) => Err(ParseErr::Refused(broken.refusal(file))),
+    match built {
+        Err(BuildErr::Misplaced(line)) => Some(*line),
+        _ => None,
     }
 }
 
-// The rule on rows that is told first.
+// The tree where no rule is broken, else the rule that is told first, or want of memory.
+fn unless_broken(
+    file: u32,
+    least: Option<Broken>,
+    built: Result<SourceFile, BuildErr>,
+) -> Result<SourceFile, ParseErr>
+    requires { least ≡ None → (f : Fault) → built ≡ Err f → f ≡ fault.Memory }
+    ensures kept { IfOk result (λ tree. (built ≡ Ok tree) × (least ≡ None)) }
+    ensures refused { (r : OneRefusal) → result ≡ Err (failure.Refused r) → (r.file ≡ file) × (least ≡ Some (record { line = r.line; rule = r.rule })) }
+    ensures memory { built ≡ Err fault.Memory → result ≡ Err failure.Memory }
+{
+    match (least, built) {
+        (_, Err(BuildErr::Memory)) => Err(ParseErr::Memory),
+        (Some(broken), _) => Err(ParseErr::Refused(broken.refusal(file))),
+        (None, Ok(tree)) => Ok(tree),
+        (None, Err(_)) => unreachable!(),
+    }
+}
+
+// The rule on rows that is told first, but for that on where they stand.
 fn judge(alloc: Global, rows: &[Row], brackets: &[usize]) -> Result<Option<Broken>, AllocError>
     requires { length brackets.now ≡ length rows.now }
-    ensures { IfOk result (λ least. IsLeastOf (BreaksRowRule rows.now brackets.now) least) }
+    ensures { IfOk result (λ least. IsLeastOf (BreaksJudged rows.now brackets.now) least) }
 {
     let unended = first_unended(alloc, rows)?;
     let too_deep = first_too_deep(alloc, rows, brackets)?;

@@ -1,9 +1,10 @@
-//! From the logical lines of a file to its rows, or the least rule on lines and blocks that they break (Visual Basic Language
+//! From the logical lines of a file to its syntax tree, or the least rule on lines and blocks that they break (Visual Basic Language
 //! Specification 11.0, 6, 7, 9 and 10).
 #![tactic(auto)]
 
 mod broken;
 mod files;
+mod front;
 mod modifiers;
 mod options;
 
