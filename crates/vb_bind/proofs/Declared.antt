@@ -1,5 +1,5 @@
 -- Names and declarations: what is read is of the grammar, and what is of the grammar is read.
-use Rattle.std.proofs.Common.{◌≡◌, ◌⊎◌, inl, inr, ⊎_elim, ℕ, zero, suc, ◌+◌, ◌<◌, Bool, true, List, [], ◌∷◌, ◌++◌, map, length, Option, Some, None, refl, sym, ap, subst, ◌∙◌, arith, append_assoc, append-nil, length-append}
+use Rattle.std.proofs.Common.{◌≡◌, ◌⊎◌, inl, inr, ⊎_elim, ℕ, zero, suc, ◌+◌, ◌<◌, Bool, true, List, [], ◌∷◌, ◌++◌, length, Option, Some, None, refl, sym, ap, subst, ◌∙◌, arith, append_assoc, append-nil, length-append}
 use Rattle.std.specs.Prelude.{if◌then◌else◌, not, slice_get, unwrap_or}
 use Rattle.vb_text.specs.declared.names.Name.{Name}
 use Rattle.vb_syntax.specs.declared.types.PrimitiveTypeName.TheVariants as primitive
@@ -17,21 +17,20 @@ use Rattle.vb_syntax.specs.declared.declarator.VariableModifier.TheVariants as m
 use Rattle.vb_syntax.specs.declared.declarator.Declarator.{Declarator}
 use Rattle.vb_syntax.specs.declared.declarator.Declarator.TheVariants as declarator
 use Rattle.vb_syntax.specs.declared.statement.LocalModifier.TheVariants as local
-use Rattle.vb_syntax.specs.declared.item.Item.{Item}
-use Rattle.vb_syntax.specs.declared.item.Item.TheVariants as item
+use Rattle.vb_syntax.specs.declared.statement.Statement.{Statement as SyntaxStatement}
+use Rattle.vb_syntax.specs.declared.statement.StatementForm.{StatementForm}
+use Rattle.vb_syntax.specs.declared.statement.StatementForm.TheVariants as form
 use Rattle.vb_bound.specs.declared.tree.LocalId.{LocalId}
 use Rattle.vb_bound.specs.declared.tree.Operand.{Operand}
 use Rattle.vb_bound.specs.declared.tree.Operand.TheVariants.{Local, Number}
+use Rattle.vb_bound.specs.declared.tree.Statement.{Statement}
 use Rattle.vb_bound.specs.declared.tree.Statement.TheVariants.{Assign, WriteLine}
-use Rattle.vb_bound.specs.declared.tree.Line.{Line}
-use Rattle.vb_bound.specs.declared.tree.Line.TheVariants.{Does, While, EndWhile}
-use Rattle.vb_bound.specs.Tree.{Outline, outline, IsOperandOf, IsInitialOf, AreLocals, AreLines}
+use Rattle.vb_bound.specs.Tree.{Block, Done, Then, Loop, IsOperandOf, IsInitialOf, AreLocals}
 use Rattle.vb_bind.specs.declared.names.KnownNames.{KnownNames}
-use Rattle.vb_bind.specs.Grammar.{operand_tree, line_item, initial_tree, dim_item, dim_items, IsIn, IsName, AreDistinctNames, AreMixedLines, AreFitLines, IsFitInitial, AreFitInitials}
-use Rattle.vb_bind.specs.Parsing.{and_then, is_one_of, is_free, number_read, name_read, is_new, local_from, operand_read, depth_after, initial_read, is_integer_type, is_plain, variable_read, declarator_read, declared_read, dim_read, lines_read, dim_or, dims_read}
+use Rattle.vb_bind.specs.Grammar.{operand_tree, initial_tree, statement_form, dim_form, AreDims, IsBlockOf, IsIn, IsName, AreDistinctNames, IsFitInitial, AreFitInitials}
+use Rattle.vb_bind.specs.Parsing.{and_then, is_one_of, is_free, number_read, name_read, is_new, local_from, operand_read, initial_read, is_integer_type, is_plain, variable_read, declarator_read, declared_read, dim_read, Front, front, dim_or, front_read}
 use Rattle.vb_bind.proofs.Trees.{then_is, if_is, not_is, any_none, any_made, integer_type_is, plain_is}
-use Rattle.vb_bind.proofs.OneLine.{local_sound, operand_sound, get_some, operand_made}
-use Rattle.vb_bind.proofs.Bodies.{lines_sound, lines_made, end_items}
+use Rattle.vb_bind.proofs.OneStatement.{local_sound, operand_sound, get_some, operand_made}
 
 pub get_front : (ns more : List Name) (k : ℕ) (s : Name) → slice_get ns k ≡ Some s → slice_get (ns ++ more) k ≡ Some s
 get_front [] more k s e = absurd cc
@@ -125,25 +124,19 @@ declarator_sound known names more (declarator.As vs t i) s d e =
     )
 declarator_sound known names more a s d e = absurd cc
 
-declared_sound : (known : KnownNames) (names more : List Name) (all : List Declarator) (s : Name) (d : Option Operand) → declared_read known names all ≡ Some (s, d) → (item.Declaration local.Dim all ≡ dim_item (names ++ more) s d) × IsName known s × IsFitInitial d
+declared_sound : (known : KnownNames) (names more : List Name) (all : List Declarator) (s : Name) (d : Option Operand) → declared_read known names all ≡ Some (s, d) → (form.LocalDeclaration local.Dim all ≡ dim_form (names ++ more) s d) × IsName known s × IsFitInitial d
 declared_sound known names more [] s d e = absurd cc
-declared_sound known names more (a ∷ []) s d e = let one = declarator_sound known names more a s d e in (ap (λ x. item.Declaration local.Dim (x ∷ [])) one.0, one.1, one.2)
+declared_sound known names more (a ∷ []) s d e = let one = declarator_sound known names more a s d e in (ap (λ x. form.LocalDeclaration local.Dim (x ∷ [])) one.0, one.1, one.2)
 declared_sound known names more (a ∷ b ∷ more_of) s d e = absurd cc
 
-pub dim_sound : (known : KnownNames) (names more : List Name) (i : Item) (s : Name) (d : Option Operand) → dim_read known names i ≡ Some (s, d) → (i ≡ dim_item (names ++ more) s d) × IsName known s × IsFitInitial d
-dim_sound known names more (item.Declaration local.Dim all) s d e = declared_sound known names more all s d e
-dim_sound known names more i s d e = absurd cc
+pub dim_sound : (known : KnownNames) (names more : List Name) (f : StatementForm) (s : Name) (d : Option Operand) → dim_read known names f ≡ Some (s, d) → (f ≡ dim_form (names ++ more) s d) × IsName known s × IsFitInitial d
+dim_sound known names more (form.LocalDeclaration local.Dim all) s d e = declared_sound known names more all s d e
+dim_sound known names more f s d e = absurd cc
 
-pub dim_made : (known : KnownNames) (names more : List Name) (s : Name) (i : Option Operand) → AreDistinctNames known names → IsName known s → IsInitialOf (length names) i → IsFitInitial i → dim_read known names (dim_item (names ++ more) s i) ≡ Some (s, i)
+pub dim_made : (known : KnownNames) (names more : List Name) (s : Name) (i : Option Operand) → AreDistinctNames known names → IsName known s → IsInitialOf (length names) i → IsFitInitial i → dim_read known names (dim_form (names ++ more) s i) ≡ Some (s, i)
 dim_made known names more s i d n h f =
     ap (λ o. and_then o (λ s. and_then (initial_read names (initial_tree (names ++ more) i)) (λ i. Some (s, i)))) (name_made known s n)
     ∙ ap (λ o. and_then o (λ i. Some (s, i))) (init_made known names more i d h f)
-
-pub dim_of_line : (known : KnownNames) (names all : List Name) (l : Line) → dim_read known names (line_item known all l) ≡ None
-dim_of_line known names all (Does (Assign x e)) = refl
-dim_of_line known names all (Does (WriteLine e)) = refl
-dim_of_line known names all (While test) = refl
-dim_of_line known names all EndWhile = refl
 
 -- each name is new beside the module's and those before it
 abbrev pub Chain : KnownNames → Name → List Name → List Name → Type 0
@@ -189,74 +182,92 @@ distinct_at known (x ∷ xs) ns s d =
     let more = distinct_at known xs ns s d.2 in
     (more.0, λ k. ⊎_elim (λ (e : s ≡ x). d.1 (in_back x xs (s ∷ ns) (inl (sym e)))) more.1 k)
 
-pub record DimsAre (known : KnownNames) (m : Name) (names : List Name) (dims : List (Option Operand)) (ls : List Item) (t : Outline) : Type 0 where
+-- the statements are declarations of these, and such a front is behind them
+pub record FrontIs (known : KnownNames) (m : Name) (names : List Name) (locals : List (Option Operand)) (ss : List SyntaxStatement) (f : Front) : Type 0 where
   pub more : List Name
   pub inits : List (Option Operand)
-  pub lines : List Line
-  pub same : length more ≡ length inits
-  pub tree : t ≡ outline (dims ++ inits) lines
-  pub items : ls ≡ dim_items (names ++ more) more inits ++ (map (λ l. line_item known (names ++ more) l) lines ++ end_items)
+  pub dims : List SyntaxStatement
+  pub statements : ss ≡ dims ++ f.behind
+  pub names_are : f.names ≡ names ++ more
+  pub locals_are : f.locals ≡ locals ++ inits
+  pub are_dims : AreDims (names ++ more) more inits dims
   pub chain : Chain known m names more
-  pub depth : depth_after 0 lines ≡ Some 0
-  pub mixed : AreMixedLines lines
-  pub fit : AreFitInitials inits × AreFitLines lines
+  pub fit : AreFitInitials inits
 
-pub dims_sound : (known : KnownNames) (m : Name) (names : List Name) (dims : List (Option Operand)) (ls : List Item) (t : Outline) → dims_read known m names dims ls ≡ Some t → DimsAre known m names dims ls t
-dims_sound known m names dims [] t e = absurd cc
-dims_sound known m names dims (l ∷ ls) t e = by_dim (dim_read known names l) refl e (λ s i h. dims_sound known m (names ++ s ∷ []) (dims ++ i ∷ []) ls t h)
+front_none : (known : KnownNames) (m : Name) (names : List Name) (locals : List (Option Operand)) (ss : List SyntaxStatement) (f : Front) → Some (front names locals ss) ≡ Some f → FrontIs known m names locals ss f
+front_none known m names locals ss f e =
+    let is : front names locals ss ≡ f = cc in
+    record {
+      more = [];
+      inits = [];
+      dims = [];
+      statements = ap (λ (x : Front). x.behind) is;
+      names_are = sym (ap (λ (x : Front). x.names) is) ∙ sym (append-nil names);
+      locals_are = sym (ap (λ (x : Front). x.locals) is) ∙ sym (append-nil locals);
+      are_dims = tt;
+      chain = tt;
+      fit = tt;
+    }
+
+pub front_sound : (known : KnownNames) (m : Name) (names : List Name) (locals : List (Option Operand)) (ss : List SyntaxStatement) (f : Front) → front_read known m names locals ss ≡ Some f → FrontIs known m names locals ss f
+front_sound known m names locals [] f e = front_none known m names locals [] f e
+front_sound known m names locals (x ∷ ss) f e = by_dim (dim_read known names x.form) refl e (λ n d h. front_sound known m (names ++ n ∷ []) (locals ++ d ∷ []) ss f h)
   where
-    by_dim : (o : Option (Name × Option Operand)) → dim_read known names l ≡ o → dim_or o (lines_read known names dims [] 0 (l ∷ ls)) (λ s i. if is_new m names s then dims_read known m (names ++ s ∷ []) (dims ++ i ∷ []) ls else None) ≡ Some t → ((s : Name) (i : Option Operand) → dims_read known m (names ++ s ∷ []) (dims ++ i ∷ []) ls ≡ Some t → DimsAre known m (names ++ s ∷ []) (dims ++ i ∷ []) ls t) → DimsAre known m names dims (l ∷ ls) t
-    by_dim None none h again =
-        let lines = lines_sound known names dims [] 0 (l ∷ ls) t h in
-        record {
-          more = [];
-          inits = [];
-          lines = lines.more;
-          same = refl;
-          tree = lines.tree ∙ ap (λ d. outline d lines.more) (sym (append-nil dims));
-          items = lines.items ∙ ap (λ n. map (λ x. line_item known n x) lines.more ++ end_items) (sym (append-nil names));
-          chain = tt;
-          depth = lines.counted;
-          mixed = lines.mixed;
-          fit = (tt, lines.fit);
-        }
+    by_dim : (o : Option (Name × Option Operand)) → dim_read known names x.form ≡ o → dim_or o (Some (front names locals (x ∷ ss))) (λ n d. if is_new m names n then front_read known m (names ++ n ∷ []) (locals ++ d ∷ []) ss else None) ≡ Some f → ((n : Name) (d : Option Operand) → front_read known m (names ++ n ∷ []) (locals ++ d ∷ []) ss ≡ Some f → FrontIs known m (names ++ n ∷ []) (locals ++ d ∷ []) ss f) → FrontIs known m names locals (x ∷ ss) f
+    by_dim None none h again = front_none known m names locals (x ∷ ss) f h
     by_dim (Some d) some h again =
-        let k = if_is (is_new m names d.0) (dims_read known m (names ++ d.0 ∷ []) (dims ++ d.1 ∷ []) ls) t h in
+        let k = if_is (is_new m names d.0) (front_read known m (names ++ d.0 ∷ []) (locals ++ d.1 ∷ []) ss) f h in
         let rest = again d.0 d.1 k.1 in
-        let one = dim_sound known names (d.0 ∷ rest.more) l d.0 d.1 some in
-        let names_is : (names ++ d.0 ∷ []) ++ rest.more ≡ names ++ (d.0 ∷ rest.more) = append_assoc names (d.0 ∷ []) rest.more in
+        let one = dim_sound known names (d.0 ∷ rest.more) x.form d.0 d.1 some in
+        let all : (names ++ d.0 ∷ []) ++ rest.more ≡ names ++ (d.0 ∷ rest.more) = append_assoc names (d.0 ∷ []) rest.more in
         record {
           more = d.0 ∷ rest.more;
           inits = d.1 ∷ rest.inits;
-          lines = rest.lines;
-          same = ap suc rest.same;
-          tree = rest.tree ∙ ap (λ x. outline x rest.lines) (append_assoc dims (d.1 ∷ []) rest.inits);
-          items = ap (λ x. x ∷ ls) one.0 ∙ ap (λ x. dim_item (names ++ (d.0 ∷ rest.more)) d.0 d.1 ∷ x) (rest.items ∙ ap (λ n. dim_items n rest.more rest.inits ++ (map (λ l. line_item known n l) rest.lines ++ end_items)) names_is);
+          dims = x ∷ rest.dims;
+          statements = ap (λ ys. x ∷ ys) rest.statements;
+          names_are = rest.names_are ∙ all;
+          locals_are = rest.locals_are ∙ append_assoc locals (d.1 ∷ []) rest.inits;
+          are_dims = (one.0, subst (λ ns. AreDims ns rest.more rest.inits rest.dims) all rest.are_dims);
           chain = (one.1, new_sound m names d.0 k.0, rest.chain);
-          depth = rest.depth;
-          mixed = rest.mixed;
-          fit = ((one.2, rest.fit.0), rest.fit.1);
+          fit = (one.2, rest.fit);
         }
 
-pub stop_read : (known : KnownNames) (m : Name) (names : List Name) (dims : List (Option Operand)) (lines : List Line) → dims_read known m names dims (map (λ l. line_item known names l) lines ++ end_items) ≡ lines_read known names dims [] 0 (map (λ l. line_item known names l) lines ++ end_items)
-stop_read known m names dims [] = refl
-stop_read known m names dims (l ∷ lines) = ap (λ o. dim_or o (lines_read known names dims [] 0 (line_item known names l ∷ (map (λ l. line_item known names l) lines ++ end_items))) (λ s i. if is_new m names s then dims_read known m (names ++ s ∷ []) (dims ++ i ∷ []) (map (λ l. line_item known names l) lines ++ end_items) else None)) (dim_of_line known names names l)
+dim_of_statement : (known : KnownNames) (names all : List Name) (s : Statement) → dim_read known names (statement_form known all s) ≡ None
+dim_of_statement known names all (Assign x e) = refl
+dim_of_statement known names all (WriteLine e) = refl
 
-pub dims_made : (known : KnownNames) (m : Name) (names more : List Name) (dims inits : List (Option Operand)) (lines : List Line) → length more ≡ length inits → AreDistinctNames known (m ∷ (names ++ more)) → AreLocals (length names) inits → AreLines (length (names ++ more)) lines → AreMixedLines lines → AreFitInitials inits → AreFitLines lines → depth_after 0 lines ≡ Some 0 → dims_read known m names dims (dim_items (names ++ more) more inits ++ (map (λ l. line_item known (names ++ more) l) lines ++ end_items)) ≡ Some (outline (dims ++ inits) lines)
-dims_made known m names [] dims [] lines same d a b mixed first fit depth =
-    let is = append-nil names in
-    ap (λ n. dims_read known m names dims (map (λ l. line_item known n l) lines ++ end_items)) is ∙ stop_read known m names dims lines ∙ lines_made known names dims [] lines 0 (subst (λ n. AreDistinctNames known n) is d.2) (subst (λ n. AreLines (length n) lines) is b) mixed fit depth ∙ ap (λ x. Some (outline x lines)) (sym (append-nil dims))
-dims_made known m names [] dims (i ∷ inits) lines same d a b mixed first fit depth = absurd (omega arith)
-dims_made known m names (s ∷ more) dims [] lines same d a b mixed first fit depth = absurd (omega arith)
-dims_made known m names (s ∷ more) dims (i ∷ inits) lines same d a b mixed first fit depth =
-    let at = distinct_at known (m ∷ names) more s d in
-    let front = distinct_front known names (s ∷ more) d.2 in
-    let is : (names ++ s ∷ []) ++ more ≡ names ++ (s ∷ more) = append_assoc names (s ∷ []) more in
-    let less : length more ≡ length inits = omega arith in
-    let len : length names + 1 ≡ length (names ++ s ∷ []) = sym (length-append names (s ∷ [])) in
-    let ls : List Item = dim_items (names ++ (s ∷ more)) more inits ++ (map (λ l. line_item known (names ++ (s ∷ more)) l) lines ++ end_items) in
-    ap (λ o. dim_or o (lines_read known names dims [] 0 (dim_item (names ++ (s ∷ more)) s i ∷ ls)) (λ s i. if is_new m names s then dims_read known m (names ++ s ∷ []) (dims ++ i ∷ []) ls else None)) (dim_made known names (s ∷ more) s i front at.0 a.0 first.0)
-    ∙ ap (λ (p : Bool). if p then dims_read known m (names ++ s ∷ []) (dims ++ i ∷ []) ls else None) (new_made m names s at.1)
-    ∙ ap (λ n. dims_read known m (names ++ s ∷ []) (dims ++ i ∷ []) (dim_items n more inits ++ (map (λ l. line_item known n l) lines ++ end_items))) (sym is)
-    ∙ dims_made known m (names ++ s ∷ []) more (dims ++ i ∷ []) inits lines less (subst (λ n. AreDistinctNames known (m ∷ n)) (sym is) d) (subst (λ n. AreLocals n inits) len a.1) (subst (λ n. AreLines (length n) lines) (sym is) b) mixed first.1 fit depth
-    ∙ ap (λ x. Some (outline x lines)) (append_assoc dims (i ∷ []) inits)
+stop_at : (known : KnownNames) (m : Name) (names : List Name) (locals : List (Option Operand)) (s : SyntaxStatement) (ss : List SyntaxStatement) → dim_read known names s.form ≡ None → front_read known m names locals (s ∷ ss) ≡ Some (front names locals (s ∷ ss))
+stop_at known m names locals s ss e = ap (λ o. dim_or o (Some (front names locals (s ∷ ss))) (λ n d. if is_new m names n then front_read known m (names ++ n ∷ []) (locals ++ d ∷ []) ss else None)) e
+
+-- no statement of a block is a declaration
+pub stop_read : (known : KnownNames) (m : Name) (names all : List Name) (locals : List (Option Operand)) (ss : List SyntaxStatement) (b : Block) → IsBlockOf known all ss b → front_read known m names locals ss ≡ Some (front names locals ss)
+stop_read known m names all locals ss Done h =
+    let P : List SyntaxStatement → Type 0 = λ x. front_read known m names locals x ≡ Some (front names locals x) in
+    subst P (sym h) refl
+stop_read known m names all locals ss (Then s b) h =
+    let P : List SyntaxStatement → Type 0 = λ x. front_read known m names locals x ≡ Some (front names locals x) in
+    subst P (sym h.2) (stop_at known m names locals h.0 h.1 (ap (λ f. dim_read known names f) h.3 ∙ dim_of_statement known names all s))
+stop_read known m names all locals ss (Loop t b r) h =
+    let P : List SyntaxStatement → Type 0 = λ x. front_read known m names locals x ≡ Some (front names locals x) in
+    subst P (sym h.3) (stop_at known m names locals h.0 h.2 (ap (λ f. dim_read known names f) h.4))
+
+pub front_made : (known : KnownNames) (m : Name) (names more : List Name) (locals inits : List (Option Operand)) (dims ss : List SyntaxStatement) → AreDims (names ++ more) more inits dims → AreDistinctNames known (m ∷ (names ++ more)) → AreLocals (length names) inits → AreFitInitials inits → ((n : List Name) (l : List (Option Operand)) → front_read known m n l ss ≡ Some (front n l ss)) → front_read known m names locals (dims ++ ss) ≡ Some (front (names ++ more) (locals ++ inits) ss)
+front_made known m names [] locals [] [] ss h d a fit stop =
+    stop names locals ∙ ap (λ x. Some (front x locals ss)) (sym (append-nil names)) ∙ ap (λ x. Some (front (names ++ []) x ss)) (sym (append-nil locals))
+front_made known m names [] locals [] (x ∷ dims) ss h d a fit stop = absurd h
+front_made known m names [] locals (i ∷ inits) dims ss h d a fit stop = absurd h
+front_made known m names (n ∷ more) locals [] dims ss h d a fit stop = absurd h
+front_made known m names (n ∷ more) locals (i ∷ inits) [] ss h d a fit stop = absurd h
+front_made known m names (n ∷ more) locals (i ∷ inits) (x ∷ dims) ss h d a fit stop =
+    let at = distinct_at known (m ∷ names) more n d in
+    let before = distinct_front known names (n ∷ more) d.2 in
+    let all : (names ++ n ∷ []) ++ more ≡ names ++ (n ∷ more) = append_assoc names (n ∷ []) more in
+    let len : length names + 1 ≡ length (names ++ n ∷ []) = sym (length-append names (n ∷ [])) in
+    let go : Name → Option Operand → Option Front = λ s j. if is_new m names s then front_read known m (names ++ s ∷ []) (locals ++ j ∷ []) (dims ++ ss) else None in
+    let stopped : Option Front = Some (front names locals (x ∷ (dims ++ ss))) in
+    ap (λ f. dim_or (dim_read known names f) stopped go) h.0
+    ∙ ap (λ o. dim_or o stopped go) (dim_made known names (n ∷ more) n i before at.0 a.0 fit.0)
+    ∙ ap (λ (p : Bool). if p then front_read known m (names ++ n ∷ []) (locals ++ i ∷ []) (dims ++ ss) else None) (new_made m names n at.1)
+    ∙ front_made known m (names ++ n ∷ []) more (locals ++ i ∷ []) inits dims ss (subst (λ z. AreDims z more inits dims) (sym all) h.1) (subst (λ z. AreDistinctNames known (m ∷ z)) (sym all) d) (subst (λ k. AreLocals k inits) len a.1) fit.1 stop
+    ∙ ap (λ z. Some (front z ((locals ++ i ∷ []) ++ inits) ss)) all
+    ∙ ap (λ z. Some (front (names ++ (n ∷ more)) z ss)) (append_assoc locals (i ∷ []) inits)

@@ -1,9 +1,11 @@
-pub mod Steps
-pub mod Blocks
 pub mod Trees
-pub mod OneLine
-pub mod Bodies
+pub mod OneStatement
+pub mod Nested
 pub mod Declared
+pub mod Outside
 pub mod Files
-pub mod Widest
+pub mod Steps
 pub mod OneForm
+pub mod Least
+pub mod Built
+pub mod Widest

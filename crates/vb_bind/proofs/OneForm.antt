@@ -1,4 +1,4 @@
--- The items that the tests of forms take are those of a program, whatever the names and the numbers are.
+-- The forms that the tests take are those of a program's statements, whatever the names and the numbers are.
 use Rattle.std.proofs.Common.{◌≡◌, ℕ, Bool, true, List, [], ◌∷◌, Option, Some, None, refl, sym, ap, subst, ◌∙◌}
 use Rattle.std.specs.Prelude.{◌&&◌, slice_get, unwrap_or}
 use Rattle.vb_text.specs.declared.names.Name.{Name}
@@ -20,24 +20,24 @@ use Rattle.vb_syntax.specs.declared.declarator.VariableModifier.TheVariants as m
 use Rattle.vb_syntax.specs.declared.declarator.Declarator.{Declarator}
 use Rattle.vb_syntax.specs.declared.declarator.Declarator.TheVariants as declarator
 use Rattle.vb_syntax.specs.declared.statement.LocalModifier.TheVariants as local
-use Rattle.vb_syntax.specs.declared.item.DeclarationLine.{DeclarationLine}
-use Rattle.vb_syntax.specs.declared.item.DeclarationLine.TheVariants as header
-use Rattle.vb_syntax.specs.declared.item.Item.{Item}
-use Rattle.vb_syntax.specs.declared.item.Item.TheVariants as item
-use Rattle.vb_syntax.specs.declared.item.BlockWord.TheVariants as block
+use Rattle.vb_syntax.specs.declared.statement.Statement.{Statement as SyntaxStatement}
+use Rattle.vb_syntax.specs.declared.statement.StatementForm.{StatementForm, out-StatementForm, roll-StatementForm, roll-out-StatementForm}
+use Rattle.vb_syntax.specs.declared.statement.StatementForm.TheOpen.{StatementForm-F}
+use Rattle.vb_syntax.specs.declared.statement.StatementForm.TheVariants as form
+use Rattle.vb_syntax.specs.declared.statement.StatementForm.TheVariants.{outs-LocalDeclaration, outs-Assignment, outs-Invocation as outs-Call, outs-While, rolls-LocalDeclaration, rolls-Assignment, rolls-Invocation, rolls-While}
 use Rattle.vb_bound.specs.declared.tree.Operand.{Operand}
 use Rattle.vb_bound.specs.declared.tree.Operand.TheVariants.{Local, Number}
 use Rattle.vb_bound.specs.declared.tree.Expr.{Expr}
 use Rattle.vb_bound.specs.declared.tree.Expr.TheVariants.{One, Two}
+use Rattle.vb_bound.specs.declared.tree.Condition.{Condition}
+use Rattle.vb_bound.specs.declared.tree.Statement.{Statement}
 use Rattle.vb_bound.specs.declared.tree.Statement.TheVariants.{Assign, WriteLine}
-use Rattle.vb_bound.specs.declared.tree.Line.{Line}
-use Rattle.vb_bound.specs.declared.tree.Line.TheVariants.{Does, While, EndWhile}
+use Rattle.vb_bound.specs.declared.tree.Line.TheVariants.{Does, While}
 use Rattle.vb_bind.specs.declared.names.KnownNames.{KnownNames}
-use Rattle.vb_bind.specs.Grammar.{name_at, operand_tree, binary_of, relation_of, expr_tree, line_item, initial_tree, dim_item, IsFit, IsFitExpr, IsFitLine, IsFitInitial, IsForm, imports, module_header, main_header, declaration, of_line, main_end, module_end}
-use Rattle.vb_bind.specs.Parsing.{Layer, named, number_read, operator_read, relation_read, is_write_line, is_integer_type, is_some, is_operand_form, is_expr_form_at, is_expr_form, is_assign_form, is_argument_form, is_write_form_at, is_write_form, is_while_form_at, is_while_form, is_initial_form, is_variable_form, is_declarator_form, is_dim_form, is_header_form, is_form}
-use Rattle.vb_bind.proofs.Trees.{and_is, same_is, same_self, named_is, number_is, integer_made, binary_is, call_is, integer_type_is, plain_is}
-use Rattle.vb_bind.proofs.OneLine.{operator_sound, relation_sound, operator_made, relation_made, write_line_tree, write_line_is, write_line_made}
-use Rattle.vb_bind.proofs.Files.{system_sound, sub_sound}
+use Rattle.vb_bind.specs.Grammar.{name_at, operand_tree, binary_of, relation_of, expr_tree, statement_form, test_tree, initial_tree, dim_form, IsFit, IsFitExpr, IsFitLine, IsFitInitial, IsBuiltForm, dim, statement, loop}
+use Rattle.vb_bind.specs.Parsing.{Layer, FormLayer, named, number_read, operator_read, relation_read, is_write_line, is_integer_type, is_some, is_operand_form, is_expr_form_at, is_expr_form, is_assign_form, is_argument_form, is_write_form_at, is_write_form, is_test_form_at, is_test_form, is_initial_form, is_variable_form, is_declarator_form, is_dim_form, is_form_at, is_form}
+use Rattle.vb_bind.proofs.Trees.{and_is, named_is, number_is, integer_made, binary_is, call_is, integer_type_is, plain_is}
+use Rattle.vb_bind.proofs.OneStatement.{operator_sound, relation_sound, operator_made, relation_made, write_line_tree, write_line_is, write_line_made}
 
 some_is : {A : Type 0} (o : Option A) → is_some o ≡ true → (x : A) × (o ≡ Some x)
 some_is None h = absurd cc
@@ -97,36 +97,36 @@ expr_as x h = by_layer (out-Expr x) refl h
         record { a = one.n; b = one.n; e = One one.p; is = λ t. one.is (t ∷ one.n ∷ one.n ∷ []) refl; fit = one.fit }
 
 module _ (known : KnownNames) where
-  by_line : (i : Item) (names : List Name) (l : Line) → IsFitLine l → i ≡ line_item known names l → IsForm known i
-  by_line i names l fit is = subst (λ j. IsForm known j) (sym is) (of_line names l fit)
+  by_statement : (f : StatementForm) (names : List Name) (b : Statement) → IsFitLine (Does b) → f ≡ statement_form known names b → IsBuiltForm known f
+  by_statement f names b fit is = subst (λ g. IsBuiltForm known g) (sym is) (statement names b fit)
 
-  assign_form : (a x : SyntaxExpr) → is_assign_form a x ≡ true → IsForm known (item.Assignment a x)
+  assign_form : (a x : SyntaxExpr) → is_assign_form a x ≡ true → IsBuiltForm known (form.Assignment a x)
   assign_form a x h =
       let both = and_is (is_some (named a)) (is_expr_form x) h in
       let n = some_is (named a) both.0 in
       let e = expr_as x both.1 in
-      by_line (item.Assignment a x) (n.0 ∷ e.a ∷ e.b ∷ []) (Does (Assign (record { 0 = 0 }) e.e)) e.fit
-      (ap (λ y. item.Assignment y x) (named_is a n.0 n.1) ∙ ap (λ y. item.Assignment (tree.SimpleName n.0 []) y) (e.is n.0))
+      by_statement (form.Assignment a x) (n.0 ∷ e.a ∷ e.b ∷ []) (Assign (record { 0 = 0 }) e.e) e.fit
+      (ap (λ y. form.Assignment y x) (named_is a n.0 n.1) ∙ ap (λ y. form.Assignment (tree.SimpleName n.0 []) y) (e.is n.0))
 
-  write_form : (x : SyntaxExpr) → is_write_form known x ≡ true → IsForm known (item.Invocation x)
+  write_form : (x : SyntaxExpr) → is_write_form known x ≡ true → IsBuiltForm known (form.Invocation x)
   write_form x h = by_layer (out-Expr x) refl h
     where
-      by_argument : (f : SyntaxExpr) (xs : List SyntaxExpr) → out-Expr x ≡ Expr-F.Invocation f xs → is_write_line known f ≡ true → is_argument_form xs ≡ true → IsForm known (item.Invocation x)
+      by_argument : (f : SyntaxExpr) (xs : List SyntaxExpr) → out-Expr x ≡ Expr-F.Invocation f xs → is_write_line known f ≡ true → is_argument_form xs ≡ true → IsBuiltForm known (form.Invocation x)
       by_argument f [] is w h = absurd cc
       by_argument f (y ∷ []) is w h =
           let e = expr_as y h in
-          by_line (item.Invocation x) (known.console ∷ e.a ∷ e.b ∷ []) (Does (WriteLine e.e)) e.fit
-          (ap (λ z. item.Invocation z) (call_is x f (y ∷ []) is ∙ ap (λ g. tree.Invocation g (y ∷ [])) (write_line_is known f w) ∙ ap (λ z. tree.Invocation (write_line_tree known) (z ∷ [])) (e.is known.console)))
+          by_statement (form.Invocation x) (known.console ∷ e.a ∷ e.b ∷ []) (WriteLine e.e) e.fit
+          (ap (λ z. form.Invocation z) (call_is x f (y ∷ []) is ∙ ap (λ g. tree.Invocation g (y ∷ [])) (write_line_is known f w) ∙ ap (λ z. tree.Invocation (write_line_tree known) (z ∷ [])) (e.is known.console)))
       by_argument f (y ∷ z ∷ xs) is w h = absurd cc
 
-      by_layer : (l : Layer) → out-Expr x ≡ l → is_write_form_at known l ≡ true → IsForm known (item.Invocation x)
+      by_layer : (l : Layer) → out-Expr x ≡ l → is_write_form_at known l ≡ true → IsBuiltForm known (form.Invocation x)
       by_layer (Expr-F.Invocation f xs) is h = let both = and_is (is_write_line known f) (is_argument_form xs) h in by_argument f xs is both.0 both.1
       by_layer l is h = absurd cc
 
-  while_form : (x : SyntaxExpr) → is_while_form x ≡ true → IsForm known (item.While x)
-  while_form x h = by_layer (out-Expr x) refl h
+  loop_form : (x : SyntaxExpr) (body : List SyntaxStatement) → is_test_form x ≡ true → IsBuiltForm known (form.While x body)
+  loop_form x body h = by_layer (out-Expr x) refl h
     where
-      by_layer : (l : Layer) → out-Expr x ≡ l → is_while_form_at l ≡ true → IsForm known (item.While x)
+      by_layer : (l : Layer) → out-Expr x ≡ l → is_test_form_at l ≡ true → IsBuiltForm known (form.While x body)
       by_layer (Expr-F.Binary o p q) is h =
           let k = and_is (is_some (relation_read o)) (is_operand_form p && is_operand_form q) h in
           let both = and_is (is_operand_form p) (is_operand_form q) k.1 in
@@ -135,11 +135,13 @@ module _ (known : KnownNames) where
           let left = operand_as 0 p both.0 in
           let right = operand_as 1 q both.1 in
           let names : List Name = left.n ∷ right.n ∷ [] in
-          by_line (item.While x) names (While (record { left = left.p; relation = f.0; right = right.p })) (left.fit, right.fit)
-          (ap (λ y. item.While y) (binary_is x o p q is
+          let test : Condition = record { left = left.p; relation = f.0; right = right.p } in
+          let test_is : x ≡ test_tree names test =
+          binary_is x o p q is
           ∙ ap (λ y. tree.Binary y p q) mid
           ∙ ap (λ y. tree.Binary (binary.Relational (relation_of f.0)) y q) (left.is names refl)
-          ∙ ap (λ y. tree.Binary (binary.Relational (relation_of f.0)) (operand_tree names left.p) y) (right.is names refl)))
+          ∙ ap (λ y. tree.Binary (binary.Relational (relation_of f.0)) (operand_tree names left.p) y) (right.is names refl) in
+          subst (λ y. IsBuiltForm known (form.While y body)) (sym test_is) (loop names test body (left.fit, right.fit))
       by_layer l is h = absurd cc
 
   -- the first value of a declaration, and the names that it is of
@@ -155,41 +157,41 @@ module _ (known : KnownNames) where
   variable_as (v ∷ []) h = (v.name, ap (λ (m : VariableModifier). record { name = v.name; modifier = m } ∷ []) (plain_is v.modifier h))
   variable_as (v ∷ w ∷ vs) h = absurd cc
 
-  declarator_form : (a : Declarator) → is_declarator_form a ≡ true → IsForm known (item.Declaration local.Dim (a ∷ []))
+  declarator_form : (a : Declarator) → is_declarator_form a ≡ true → IsBuiltForm known (form.LocalDeclaration local.Dim (a ∷ []))
   declarator_form (declarator.As vs t i) h =
       let k = and_is (is_integer_type t) (is_variable_form vs && is_initial_form i) h in
       let both = and_is (is_variable_form vs) (is_initial_form i) k.1 in
       let n = variable_as vs both.0 in
       let d = initial_as i both.1 in
-      let is : item.Declaration local.Dim (declarator.As vs t i ∷ []) ≡ dim_item d.0 n.0 d.1 =
-      ap (λ x. item.Declaration local.Dim (declarator.As x t i ∷ [])) n.1
-      ∙ ap (λ x. item.Declaration local.Dim (declarator.As (record { name = n.0; modifier = modifier.Plain } ∷ []) x i ∷ [])) (integer_type_is t k.0)
-      ∙ ap (λ x. item.Declaration local.Dim (declarator.As (record { name = n.0; modifier = modifier.Plain } ∷ []) (type_name.Simple (simple.BuiltIn (built_in.Primitive primitive.Integer))) x ∷ [])) d.2 in
-      subst (λ j. IsForm known j) (sym is) (declaration d.0 n.0 d.1 d.3)
+      let is : form.LocalDeclaration local.Dim (declarator.As vs t i ∷ []) ≡ dim_form d.0 n.0 d.1 =
+      ap (λ x. form.LocalDeclaration local.Dim (declarator.As x t i ∷ [])) n.1
+      ∙ ap (λ x. form.LocalDeclaration local.Dim (declarator.As (record { name = n.0; modifier = modifier.Plain } ∷ []) x i ∷ [])) (integer_type_is t k.0)
+      ∙ ap (λ x. form.LocalDeclaration local.Dim (declarator.As (record { name = n.0; modifier = modifier.Plain } ∷ []) (type_name.Simple (simple.BuiltIn (built_in.Primitive primitive.Integer))) x ∷ [])) d.2 in
+      subst (λ j. IsBuiltForm known j) (sym is) (dim d.0 n.0 d.1 d.3)
   declarator_form a h = absurd cc
 
-  dim_form : (all : List Declarator) → is_dim_form all ≡ true → IsForm known (item.Declaration local.Dim all)
-  dim_form [] h = absurd cc
-  dim_form (a ∷ []) h = declarator_form a h
-  dim_form (a ∷ b ∷ all) h = absurd cc
+  dims_form : (all : List Declarator) → is_dim_form all ≡ true → IsBuiltForm known (form.LocalDeclaration local.Dim all)
+  dims_form [] h = absurd cc
+  dims_form (a ∷ []) h = declarator_form a h
+  dims_form (a ∷ b ∷ all) h = absurd cc
 
-  header_form : (d : DeclarationLine) → is_header_form known d ≡ true → IsForm known (item.Declares d)
-  header_form (header.Module None m) h = module_header m
-  header_form (header.Sub ms s is) h = subst (λ x. IsForm known x) (sym (sub_sound known (item.Declares (header.Sub ms s is)) h)) main_header
-  header_form d h = absurd cc
+  -- a form that the tests take is built
+  pub form_sound : (f : StatementForm) → is_form known f ≡ true → IsBuiltForm known f
+  form_sound f h = by_layer (out-StatementForm f) refl h
+    where
+      opened : (l : FormLayer) → out-StatementForm f ≡ l → f ≡ roll-StatementForm l
+      opened l is = sym (roll-out-StatementForm f) ∙ ap roll-StatementForm is
 
-  -- an item that the tests take has the form
-  pub form_sound : (i : Item) → is_form known i ≡ true → IsForm known i
-  form_sound (item.Imports ns) h = subst (λ x. IsForm known (item.Imports x)) (sym (system_sound known ns h)) imports
-  form_sound (item.Declares d) h = header_form d h
-  form_sound (item.Declaration local.Dim all) h = dim_form all h
-  form_sound (item.Assignment a x) h = assign_form a x h
-  form_sound (item.Invocation x) h = write_form x h
-  form_sound (item.While x) h = while_form x h
-  form_sound (item.End block.Sub) h = main_end
-  form_sound (item.End block.Module) h = module_end
-  form_sound (item.End block.While) h = of_line [] EndWhile tt
-  form_sound i h = absurd cc
+      by_layer : (l : FormLayer) → out-StatementForm f ≡ l → is_form_at known l ≡ true → IsBuiltForm known f
+      by_layer (StatementForm-F.LocalDeclaration local.Dim all) is h =
+          subst (λ g. IsBuiltForm known g) (sym (opened (StatementForm-F.LocalDeclaration local.Dim all) is ∙ rolls-LocalDeclaration local.Dim all)) (dims_form all h)
+      by_layer (StatementForm-F.Assignment a x) is h =
+          subst (λ g. IsBuiltForm known g) (sym (opened (StatementForm-F.Assignment a x) is ∙ rolls-Assignment a x)) (assign_form a x h)
+      by_layer (StatementForm-F.Invocation x) is h =
+          subst (λ g. IsBuiltForm known g) (sym (opened (StatementForm-F.Invocation x) is ∙ rolls-Invocation x)) (write_form x h)
+      by_layer (StatementForm-F.While x body) is h =
+          subst (λ g. IsBuiltForm known g) (sym (opened (StatementForm-F.While x body) is ∙ rolls-While x body)) (loop_form x body h)
+      by_layer l is h = absurd cc
 
   -- OF A PROGRAM AND SO TESTED
 
@@ -212,24 +214,25 @@ module _ (known : KnownNames) where
   initial_form names None fit = refl
   initial_form names (Some p) fit = operand_form names p fit
 
-  line_form : (names : List Name) (l : Line) → IsFitLine l → is_form known (line_item known names l) ≡ true
-  line_form names (Does (Assign x e)) fit = expr_form names e fit
-  line_form names (Does (WriteLine e)) fit =
-      ap (λ l. is_write_form_at known l) (outs-Invocation (write_line_tree known) (expr_tree names e ∷ []))
+  statement_tested : (names : List Name) (b : Statement) → IsFitLine (Does b) → is_form known (statement_form known names b) ≡ true
+  statement_tested names (Assign x e) fit = ap (λ l. is_form_at known l) (outs-Assignment (tree.SimpleName (name_at names x) []) (expr_tree names e)) ∙ expr_form names e fit
+  statement_tested names (WriteLine e) fit =
+      ap (λ l. is_form_at known l) (outs-Call (tree.Invocation (write_line_tree known) (expr_tree names e ∷ [])))
+      ∙ ap (λ l. is_write_form_at known l) (outs-Invocation (write_line_tree known) (expr_tree names e ∷ []))
       ∙ ap (λ (b : Bool). b && is_expr_form (expr_tree names e)) (write_line_made known)
       ∙ expr_form names e fit
-  line_form names (While c) fit =
-      ap (λ l. is_while_form_at l) (outs-Binary (binary.Relational (relation_of c.relation)) (operand_tree names c.left) (operand_tree names c.right))
+
+  loop_tested : (names : List Name) (c : Condition) (body : List SyntaxStatement) → IsFitLine (While c) → is_form known (form.While (test_tree names c) body) ≡ true
+  loop_tested names c body fit =
+      ap (λ l. is_form_at known l) (outs-While (test_tree names c) body)
+      ∙ ap (λ l. is_test_form_at l) (outs-Binary (binary.Relational (relation_of c.relation)) (operand_tree names c.left) (operand_tree names c.right))
       ∙ ap (λ r. is_some r && (is_operand_form (operand_tree names c.left) && is_operand_form (operand_tree names c.right))) (relation_made c.relation)
       ∙ two_operands names c.left c.right fit.0 fit.1
-  line_form names EndWhile fit = refl
 
-  -- an item that has the form is taken by the tests
-  pub form_made : {i : Item} → IsForm known i → is_form known i ≡ true
-  form_made imports = same_self known.system
-  form_made (module_header m) = refl
-  form_made main_header = same_self known.main
-  form_made (declaration names n d fit) = initial_form names d fit
-  form_made (of_line names l fit) = line_form names l fit
-  form_made main_end = refl
-  form_made module_end = refl
+  -- a form that is built is taken by the tests
+  pub form_made : {f : StatementForm} → IsBuiltForm known f → is_form known f ≡ true
+  form_made (dim names n d fit) =
+      ap (λ l. is_form_at known l) (outs-LocalDeclaration local.Dim (declarator.As (record { name = n; modifier = modifier.Plain } ∷ []) (type_name.Simple (simple.BuiltIn (built_in.Primitive primitive.Integer))) (initial_tree names d) ∷ []))
+      ∙ initial_form names d fit
+  form_made (statement names b fit) = statement_tested names b fit
+  form_made (loop names c body fit) = loop_tested names c body fit

@@ -6,7 +6,6 @@ use Rattle.std.proofs.lemmas.Bool.Decides.{nat_tests}
 use denote.Enum.Bare.{same_true}
 use Rattle.vb_text.specs.declared.names.Name.{Name}
 use Rattle.vb_syntax.specs.contracts.types.PrimitiveTypeName.{the_type as primitives}
-use Rattle.vb_syntax.specs.contracts.item.BlockWord.{the_type as blocks}
 use Rattle.vb_syntax.specs.declared.tokens.IntegerType.{IntegerType}
 use Rattle.vb_syntax.specs.declared.tokens.IntegerType.TheVariants as kind
 use Rattle.vb_syntax.specs.declared.types.PrimitiveTypeName.TheVariants as primitive
@@ -21,11 +20,8 @@ use Rattle.vb_syntax.specs.declared.expression.Expr.TheVariants as tree
 use Rattle.vb_syntax.specs.declared.expression.Expr.TheVariants.{rolls-Binary, rolls-Invocation, rolls-MemberAccess}
 use Rattle.vb_syntax.specs.declared.declarator.VariableModifier.{VariableModifier}
 use Rattle.vb_syntax.specs.declared.declarator.VariableModifier.TheVariants as modifier
-use Rattle.vb_syntax.specs.declared.item.Item.{Item}
-use Rattle.vb_syntax.specs.declared.item.Item.TheVariants as item
-use Rattle.vb_syntax.specs.declared.item.BlockWord.{BlockWord}
 use Rattle.vb_bind.specs.Grammar.{IsIn}
-use Rattle.vb_bind.specs.Parsing.{and_then, same_name, named, is_one_of, is_name_tree, as_integer, integer_of, number_read, is_block, is_end, is_integer_type, is_plain}
+use Rattle.vb_bind.specs.Parsing.{and_then, same_name, named, is_one_of, is_name_tree, as_integer, integer_of, number_read, is_integer_type, is_plain}
 
 pub by_test : (b : Bool) (P : Type 0) → (b ≡ true → P) → (b ≡ false → P) → P
 by_test true P f g = f refl
@@ -95,13 +91,6 @@ call_is x f ys e = sym (roll-out-Expr x) ∙ ap roll-Expr e ∙ rolls-Invocation
 
 pub member_is : (x y : SyntaxExpr) (n : Name) (ts : List TypeName) → out-Expr x ≡ Expr-F.MemberAccess y n ts → x ≡ tree.MemberAccess y n ts
 member_is x y n ts e = sym (roll-out-Expr x) ∙ ap roll-Expr e ∙ rolls-MemberAccess y n ts
-
-pub block_is : (w v : BlockWord) → is_block w v ≡ true → w ≡ v
-block_is w v e = same_true blocks tt w v e
-
-pub end_is : (i : Item) (v : BlockWord) → is_end i v ≡ true → i ≡ item.End v
-end_is (item.End w) v e = ap (λ x. item.End x) (block_is w v e)
-end_is i v e = absurd cc
 
 pub integer_type_is : (t : TypeName) → is_integer_type t ≡ true → t ≡ type_name.Simple (simple.BuiltIn (built_in.Primitive primitive.Integer))
 integer_type_is (type_name.Simple (simple.BuiltIn (built_in.Primitive p))) e = ap (λ q. type_name.Simple (simple.BuiltIn (built_in.Primitive q))) (same_true primitives tt p primitive.Integer e)

@@ -1,5 +1,5 @@
--- Which items, the syntax trees of the lines of a file, are a program.
-use Rattle.std.specs.Prelude.{◌≡◌, ◌⊎◌, ℕ, FitsSigned, if◌then◌else◌, nat_le, List, [], ◌∷◌, ◌++◌, map, length, Option, Some, None, slice_get, unwrap_or, codes}
+-- Which syntax trees of files are a program, and which lines have a form that none has.
+use Rattle.std.specs.Prelude.{◌≡◌, ◌⊎◌, ℕ, ◌≤◌, FitsSigned, if◌then◌else◌, nat_le, List, [], ◌∷◌, ◌++◌, length, Option, Some, None, slice_get, unwrap_or, codes}
 use Rattle.std.specs.Int.{w32}
 use Rattle.vb_text.specs.Names.{IsNameOf, with_name}
 use Rattle.vb_text.specs.declared.names.Name.{Name}
@@ -20,10 +20,16 @@ use Rattle.vb_syntax.specs.declared.expression.VariableInitializer.TheVariants a
 use Rattle.vb_syntax.specs.declared.declarator.VariableModifier.TheVariants as modifier
 use Rattle.vb_syntax.specs.declared.declarator.Declarator.TheVariants as declarator
 use Rattle.vb_syntax.specs.declared.statement.LocalModifier.TheVariants as local
-use Rattle.vb_syntax.specs.declared.item.DeclarationLine.TheVariants as line
-use Rattle.vb_syntax.specs.declared.item.Item.{Item}
-use Rattle.vb_syntax.specs.declared.item.Item.TheVariants as item
-use Rattle.vb_syntax.specs.declared.item.BlockWord.TheVariants as block
+use Rattle.vb_syntax.specs.declared.statement.Statement.{Statement as SyntaxStatement}
+use Rattle.vb_syntax.specs.declared.statement.StatementForm.{StatementForm}
+use Rattle.vb_syntax.specs.declared.statement.StatementForm.TheVariants as form
+use Rattle.vb_syntax.specs.declared.declaration.OptionStatement.{OptionStatement}
+use Rattle.vb_syntax.specs.declared.declaration.ImportsStatement.{ImportsStatement}
+use Rattle.vb_syntax.specs.declared.declaration.Member.{Member}
+use Rattle.vb_syntax.specs.declared.declaration.MemberForm.TheVariants as member
+use Rattle.vb_syntax.specs.declared.declaration.TypeDeclaration.{TypeDeclaration}
+use Rattle.vb_syntax.specs.declared.declaration.TypeForm.TheVariants as type_form
+use Rattle.vb_syntax.specs.declared.declaration.SourceFile.{SourceFile}
 use Rattle.vb_bound.specs.declared.tree.LocalId.{LocalId}
 use Rattle.vb_bound.specs.declared.tree.Operand.{Operand}
 use Rattle.vb_bound.specs.declared.tree.Operand.TheVariants.{Local, Number}
@@ -33,11 +39,12 @@ use Rattle.vb_bound.specs.declared.tree.Relation.{Relation}
 use Rattle.vb_bound.specs.declared.tree.Relation.TheVariants.{Equal, NotEqual, Less, LessOrEqual, Greater, GreaterOrEqual}
 use Rattle.vb_bound.specs.declared.tree.Expr.{Expr}
 use Rattle.vb_bound.specs.declared.tree.Expr.TheVariants.{One, Two}
+use Rattle.vb_bound.specs.declared.tree.Condition.{Condition}
 use Rattle.vb_bound.specs.declared.tree.Statement.{Statement}
 use Rattle.vb_bound.specs.declared.tree.Statement.TheVariants.{Assign, WriteLine}
 use Rattle.vb_bound.specs.declared.tree.Line.{Line}
 use Rattle.vb_bound.specs.declared.tree.Line.TheVariants.{Does, While, EndWhile}
-use Rattle.vb_bound.specs.Tree.{Tree, lines_of, outline, IsBound}
+use Rattle.vb_bound.specs.Tree.{Block, Done, Then, Loop, Tree, lines_of, outline, IsBound}
 use Rattle.vb_bind.specs.declared.names.KnownNames.{KnownNames}
 
 -- The table has the names that the grammar uses.
@@ -48,21 +55,24 @@ AreKnown table known = IsNameOf table (codes "System") known.system × IsNameOf 
 abbrev pub with_known : List (List ℕ) → List (List ℕ)
 with_known table = with_name (with_name (with_name (with_name table (codes "System")) (codes "Console")) (codes "WriteLine")) (codes "Main")
 
--- THE ITEMS OF A PROGRAM
+-- EXPRESSIONS AND STATEMENTS
 
--- the name of a local; a local has one in every bound program
+-- the name of a local; each local of a program has one
 abbrev pub name_at : List Name → LocalId → Name
 name_at names x = unwrap_or (slice_get names x.0) (record { index = 0 })
 
+-- the operand: a name, or a literal that is an Integer (Visual Basic Language Specification 11.0, 11.4.4 and 11.4.1)
 abbrev pub operand_tree : List Name → Operand → SyntaxExpr
 operand_tree names (Local x) = tree.SimpleName (name_at names x) []
 operand_tree names (Number v) = tree.Integer (record { kind = kind.Integer; value = v })
 
+-- (Visual Basic Language Specification 11.0, 11.13)
 abbrev pub binary_of : Operator → BinaryOperator
 binary_of Add = binary.Add
 binary_of Sub = binary.Subtract
 binary_of Mul = binary.Multiply
 
+-- (Visual Basic Language Specification 11.0, 11.14)
 abbrev pub relation_of : Relation → RelationalOperator
 relation_of Equal = relational.Equal
 relation_of NotEqual = relational.NotEqual
@@ -71,49 +81,73 @@ relation_of LessOrEqual = relational.LessOrEqual
 relation_of Greater = relational.Greater
 relation_of GreaterOrEqual = relational.GreaterOrEqual
 
+-- an operand, or an operator between two (Visual Basic Language Specification 11.0, 11.12)
 abbrev pub expr_tree : List Name → Expr → SyntaxExpr
 expr_tree names (One p) = operand_tree names p
 expr_tree names (Two p o q) = tree.Binary (binary_of o) (operand_tree names p) (operand_tree names q)
 
-abbrev pub statement_item : KnownNames → List Name → Statement → Item
-statement_item known names (Assign x e) = item.Assignment (tree.SimpleName (name_at names x) []) (expr_tree names e)
-statement_item known names (WriteLine e) = item.Invocation (tree.Invocation (tree.MemberAccess (tree.SimpleName known.console []) known.write_line []) (expr_tree names e ∷ []))
+-- the statement, whose names are these (Visual Basic Language Specification 11.0, 10.6.1 and 10.7)
+abbrev pub statement_form : KnownNames → List Name → Statement → StatementForm
+statement_form known names (Assign x e) = form.Assignment (tree.SimpleName (name_at names x) []) (expr_tree names e)
+statement_form known names (WriteLine e) = form.Invocation (tree.Invocation (tree.MemberAccess (tree.SimpleName known.console []) known.write_line []) (expr_tree names e ∷ []))
 
-abbrev pub line_item : KnownNames → List Name → Line → Item
-line_item known names (Does s) = statement_item known names s
-line_item known names (While test) = item.While (tree.Binary (binary.Relational (relation_of test.relation)) (operand_tree names test.left) (operand_tree names test.right))
-line_item known names EndWhile = item.End block.While
+-- the test of a While (Visual Basic Language Specification 11.0, 10.9.1)
+abbrev pub test_tree : List Name → Condition → SyntaxExpr
+test_tree names test = tree.Binary (binary.Relational (relation_of test.relation)) (operand_tree names test.left) (operand_tree names test.right)
 
+-- the value that a declaration gives, if it gives one (Visual Basic Language Specification 11.0, 10.2)
 abbrev pub initial_tree : List Name → Option Operand → Option VariableInitializer
 initial_tree names None = None
 initial_tree names (Some p) = Some (init.Expression (operand_tree names p))
 
--- the declaration of one Integer of this name, where all names are these
-abbrev pub dim_item : List Name → Name → Option Operand → Item
-dim_item all n d = item.Declaration local.Dim (declarator.As (record { name = n; modifier = modifier.Plain } ∷ []) (type_name.Simple (simple.BuiltIn (built_in.Primitive primitive.Integer))) (initial_tree all d) ∷ [])
+-- the declaration of one Integer of this name, where all names are these (Visual Basic Language Specification 11.0, 10.2)
+abbrev pub dim_form : List Name → Name → Option Operand → StatementForm
+dim_form all n d = form.LocalDeclaration local.Dim (declarator.As (record { name = n; modifier = modifier.Plain } ∷ []) (type_name.Simple (simple.BuiltIn (built_in.Primitive primitive.Integer))) (initial_tree all d) ∷ [])
 
--- the declarations of the names that are left, of all names
-abbrev pub dim_items : List Name → List Name → List (Option Operand) → List Item
-dim_items all (n ∷ ns) (d ∷ ds) = dim_item all n d ∷ dim_items all ns ds
-dim_items all ns ds = []
+-- the statements declare the names that are left, of all names, one after the other
+abbrev pub AreDims : List Name → List Name → List (Option Operand) → List SyntaxStatement → Type 0
+AreDims all [] [] [] = Unit {0}
+AreDims all (n ∷ ns) (d ∷ ds) (s ∷ ss) = (s.form ≡ dim_form all n d) × AreDims all ns ds ss
+AreDims all ns ds ss = ⊥
 
--- the header of a module without an access
-abbrev pub module_item : Name → Item
-module_item m = item.Declares (line.Module None m)
+-- The statements are those of the block, one beside the other, and inside each While those of the loop's body
+-- (Visual Basic Language Specification 11.0, 10.1 and 10.9.1).
+abbrev pub IsBlockOf : KnownNames → List Name → List SyntaxStatement → Block → Type 0
+IsBlockOf known names ss Done = ss ≡ []
+IsBlockOf known names ss (Then b rest) = (s : SyntaxStatement) × (behind : List SyntaxStatement) × (ss ≡ s ∷ behind)
+    × (s.form ≡ statement_form known names b) × IsBlockOf known names behind rest
+IsBlockOf known names ss (Loop test body rest) = (s : SyntaxStatement) × (inner behind : List SyntaxStatement) × (ss ≡ s ∷ behind)
+    × (s.form ≡ form.While (test_tree names test) inner) × IsBlockOf known names inner body × IsBlockOf known names behind rest
 
--- the header of a Sub without modifiers, type parameters and parameters, which implements nothing
-abbrev pub sub_item : Name → Item
-sub_item n = item.Declares (line.Sub [] (record { name = n; type_parameters = []; parameters = [] }) [])
+-- THE FILE
 
--- the items of the program of the module m whose locals have these names
-abbrev pub file_items : KnownNames → Name → List Name → Tree → List Item
-file_items known m names t =
-    item.Imports ((known.system ∷ []) ∷ [])
-    ∷ module_item m
-    ∷ sub_item known.main
-    ∷ (dim_items names names t.locals
-    ++ (map (λ l. line_item known names l) (lines_of t.body)
-    ++ (item.End block.Sub ∷ item.End block.Module ∷ [])))
+-- It imports System alone (Visual Basic Language Specification 11.0, 6.3.2).
+abbrev pub IsImportsOf : KnownNames → ImportsStatement → Type 0
+IsImportsOf known i = i.namespaces ≡ (known.system ∷ []) ∷ []
+
+-- It is a module of these members, without an access (Visual Basic Language Specification 11.0, 7.7).
+pub record IsModuleOf (d : TypeDeclaration) (members : List Member) : Type 0 where
+  pub access : d.access ≡ None
+  pub is_form : d.form ≡ type_form.Module members
+
+-- It is `Sub Main()` of these statements, without any modifier (Visual Basic Language Specification 11.0, 9.2.1).
+pub record IsMainOf (known : KnownNames) (x : Member) (body : List SyntaxStatement) : Type 0 where
+  pub modifiers : x.modifiers ≡ []
+  pub is_form : x.form ≡ member.Sub (record { name = known.main; type_parameters = []; parameters = [] }) [] (Some body)
+
+-- The file has no options, one Imports, of System, and one type, the module m, whose one member is Main of these statements
+-- (Visual Basic Language Specification 11.0, 6).
+pub record IsFileOf (known : KnownNames) (file : SourceFile) (m : Name) (body : List SyntaxStatement) : Type 0 where
+  pub imports : ImportsStatement
+  pub declared : TypeDeclaration
+  pub main : Member
+  pub no_options : file.options ≡ []
+  pub one_imports : file.imports ≡ imports ∷ []
+  pub is_imports : IsImportsOf known imports
+  pub one_type : file.types ≡ declared ∷ []
+  pub named : declared.name ≡ m
+  pub is_module : IsModuleOf declared (main ∷ [])
+  pub is_main : IsMainOf known main body
 
 -- NAMES (Visual Basic Language Specification 11.0, 2.2)
 
@@ -184,26 +218,64 @@ AreFitInitials (d ∷ ds) = IsFitInitial d × AreFitInitials ds
 
 -- THE PROGRAM
 
--- The items are those of the module m whose Main has these locals and this body.
-pub record IsProgramOf (known : KnownNames) (items : List Item) (t : Tree) : Type 0 where
+-- The file is that of the module m, whose Main declares these locals and has this body behind them.
+pub record IsProgramOf (known : KnownNames) (file : SourceFile) (t : Tree) : Type 0 where
   pub m : Name
   pub names : List Name
-  pub items_are : items ≡ file_items known m names t
-  pub counted : length names ≡ length t.locals
+  pub dims : List SyntaxStatement
+  pub statements : List SyntaxStatement
+  pub is_file : IsFileOf known file m (dims ++ statements)
+  pub are_dims : AreDims names names t.locals dims
+  pub is_block : IsBlockOf known names statements t.body
   pub distinct : AreDistinctNames known (m ∷ names)
   pub bound : IsBound (outline t.locals (lines_of t.body))
   pub mixed : AreMixedLines (lines_of t.body)
   pub fit : AreFitInitials t.locals × AreFitLines (lines_of t.body)
 
--- The item is one of a program, whatever the names and the numbers are.
-pub data IsForm (known : KnownNames) : Item → Type 0 where
-  imports : IsForm known (item.Imports ((known.system ∷ []) ∷ []))
-  module_header : (m : Name) → IsForm known (module_item m)
-  main_header : IsForm known (sub_item known.main)
-  declaration : (names : List Name) (n : Name) (d : Option Operand) → IsFitInitial d → IsForm known (dim_item names n d)
-  of_line : (names : List Name) (l : Line) → IsFitLine l → IsForm known (line_item known names l)
-  main_end : IsForm known (item.End block.Sub)
-  module_end : IsForm known (item.End block.Module)
+-- FORMS THAT NO PROGRAM HAS
+
+-- The form is one of a program's statements, whatever the names and the numbers are (but that each number is an Integer).
+pub data IsBuiltForm (known : KnownNames) : StatementForm → Type 0 where
+  dim : (names : List Name) (n : Name) (d : Option Operand) → IsFitInitial d → IsBuiltForm known (dim_form names n d)
+  statement : (names : List Name) (b : Statement) → IsFitLine (Does b) → IsBuiltForm known (statement_form known names b)
+  loop : (names : List Name) (test : Condition) (body : List SyntaxStatement) → IsFitLine (While test) → IsBuiltForm known (form.While (test_tree names test) body)
+
+-- One of the statements stands on line n and is of no such form, or one inside a While of such a form.
+pub data HasUnbuiltStatement (known : KnownNames) (n : ℕ) : List SyntaxStatement → Type 0 where
+  itself : (s : SyntaxStatement) (ss : List SyntaxStatement) → s.line ≡ n → (IsBuiltForm known s.form → ⊥) → HasUnbuiltStatement known n (s ∷ ss)
+  inside : (s : SyntaxStatement) (ss : List SyntaxStatement) (test : SyntaxExpr) (body : List SyntaxStatement) → s.form ≡ form.While test body
+      → IsBuiltForm known s.form → HasUnbuiltStatement known n body → HasUnbuiltStatement known n (s ∷ ss)
+  behind : (s : SyntaxStatement) (ss : List SyntaxStatement) → HasUnbuiltStatement known n ss → HasUnbuiltStatement known n (s ∷ ss)
+
+-- one of them is so
+abbrev pub HasOne : {X : Type 0} → (X → Type 0) → List X → Type 0
+HasOne Is [] = ⊥
+HasOne Is (x ∷ xs) = Is x ⊎ HasOne Is xs
+
+-- an Imports of something else, on line n
+abbrev pub IsUnbuiltImports : KnownNames → ℕ → ImportsStatement → Type 0
+IsUnbuiltImports known n i = (i.line ≡ n) × (IsImportsOf known i → ⊥)
+
+-- The member is no Main, and its header is line n; or it is, and has such a statement.
+pub data HasUnbuiltMember (known : KnownNames) (n : ℕ) (x : Member) : Type 0 where
+  no_main : x.line ≡ n → ((body : List SyntaxStatement) → IsMainOf known x body → ⊥) → HasUnbuiltMember known n x
+  in_main : (body : List SyntaxStatement) → IsMainOf known x body → HasUnbuiltStatement known n body → HasUnbuiltMember known n x
+
+-- The type is no module without an access, and its header is line n; or it is, and has such a member.
+pub data HasUnbuiltType (known : KnownNames) (n : ℕ) (d : TypeDeclaration) : Type 0 where
+  no_module : d.line ≡ n → ((members : List Member) → IsModuleOf d members → ⊥) → HasUnbuiltType known n d
+  in_module : (members : List Member) → IsModuleOf d members → HasOne (HasUnbuiltMember known n) members → HasUnbuiltType known n d
+
+-- Line n has a form that no program has, whatever the names and the numbers are: an Option, an Imports that isn't of System
+-- alone, a type that is no module, a member that is no Main, a statement. What stands inside such a form isn't looked at.
+abbrev pub HasUnbuiltForm : KnownNames → SourceFile → ℕ → Type 0
+HasUnbuiltForm known file n = HasOne (λ (o : OptionStatement). o.line ≡ n) file.options
+    ⊎ (HasOne (IsUnbuiltImports known n) file.imports ⊎ HasOne (HasUnbuiltType known n) file.types)
+
+-- the least number that is so, or that there is none
+abbrev pub IsLeast : (ℕ → Type 0) → Option ℕ → Type 0
+IsLeast Is None = (n : ℕ) → Is n → ⊥
+IsLeast Is (Some n) = Is n × ((m : ℕ) → Is m → n ≤ m)
 
 -- THE WIDEST LINE OF A FILE
 

@@ -1,10 +1,9 @@
--- Reading the items of a program as functions.
-use Rattle.std.specs.Prelude.{ℕ, zero, suc, ◌+◌, ◌^◌, Bool, true, false, not, ◌&&◌, ◌==◌, nat_lt, if◌then◌else◌, ℤ, pos, negsuc, List, [], ◌∷◌, ◌++◌, Option, Some, None}
+-- Reading the parts of a program as functions.
+use Rattle.std.specs.Prelude.{ℕ, ◌+◌, ◌^◌, Bool, true, false, not, ◌&&◌, ◌==◌, nat_lt, nat_le, if◌then◌else◌, ℤ, pos, negsuc, List, [], ◌∷◌, ◌++◌, length, Option, Some, None}
 use Rattle.std.specs.List.{list_any}
 use denote.Enum.Bare.{sameb}
 use Rattle.vb_text.specs.declared.names.Name.{Name}
 use Rattle.vb_syntax.specs.contracts.types.PrimitiveTypeName.{the_type as primitives}
-use Rattle.vb_syntax.specs.contracts.item.BlockWord.{the_type as blocks}
 use Rattle.vb_syntax.specs.declared.tokens.IntegerType.{IntegerType}
 use Rattle.vb_syntax.specs.declared.tokens.IntegerType.TheVariants as kind
 use Rattle.vb_syntax.specs.declared.types.PrimitiveTypeName.TheVariants as primitive
@@ -29,13 +28,24 @@ use Rattle.vb_syntax.specs.declared.declarator.VariableModifier.TheVariants as m
 use Rattle.vb_syntax.specs.declared.declarator.Declarator.{Declarator}
 use Rattle.vb_syntax.specs.declared.declarator.Declarator.TheVariants as declarator
 use Rattle.vb_syntax.specs.declared.statement.LocalModifier.TheVariants as local
+use Rattle.vb_syntax.specs.declared.statement.Statement.{Statement as SyntaxStatement}
+use Rattle.vb_syntax.specs.declared.statement.StatementForm.{StatementForm, out-StatementForm}
+use Rattle.vb_syntax.specs.declared.statement.StatementForm.TheOpen.{StatementForm-F}
+use Rattle.vb_syntax.specs.declared.statement.StatementForm.TheVariants as form
+use Rattle.vb_syntax.specs.declared.statement.BlockClause.{BlockClause}
+use Rattle.vb_syntax.specs.declared.statement.CaseClause.{CaseClause}
+use Rattle.vb_syntax.specs.declared.statement.CatchClause.{CatchClause}
+use Rattle.vb_syntax.specs.declared.statement.ElseIfClause.{ElseIfClause}
+use Rattle.vb_syntax.specs.declared.declaration.Access.{Access}
+use Rattle.vb_syntax.specs.declared.declaration.Member.{Member}
+use Rattle.vb_syntax.specs.declared.declaration.MemberForm.{MemberForm}
+use Rattle.vb_syntax.specs.declared.declaration.MemberForm.TheVariants as member
 use Rattle.vb_syntax.specs.declared.declaration.MethodSignature.{MethodSignature}
-use Rattle.vb_syntax.specs.declared.item.DeclarationLine.{DeclarationLine}
-use Rattle.vb_syntax.specs.declared.item.DeclarationLine.TheVariants as header
-use Rattle.vb_syntax.specs.declared.item.Item.{Item}
-use Rattle.vb_syntax.specs.declared.item.Item.TheVariants as item
-use Rattle.vb_syntax.specs.declared.item.BlockWord.{BlockWord}
-use Rattle.vb_syntax.specs.declared.item.BlockWord.TheVariants as block
+use Rattle.vb_syntax.specs.declared.declaration.Modifier.{Modifier}
+use Rattle.vb_syntax.specs.declared.declaration.TypeDeclaration.{TypeDeclaration}
+use Rattle.vb_syntax.specs.declared.declaration.TypeForm.{TypeForm}
+use Rattle.vb_syntax.specs.declared.declaration.TypeForm.TheVariants as type_form
+use Rattle.vb_syntax.specs.declared.declaration.SourceFile.{SourceFile}
 use Rattle.vb_bound.specs.declared.tree.LocalId.{LocalId}
 use Rattle.vb_bound.specs.declared.tree.Operand.{Operand}
 use Rattle.vb_bound.specs.declared.tree.Operand.TheVariants.{Local, Number}
@@ -46,11 +56,11 @@ use Rattle.vb_bound.specs.declared.tree.Relation.TheVariants.{Equal, NotEqual, L
 use Rattle.vb_bound.specs.declared.tree.Expr.{Expr}
 use Rattle.vb_bound.specs.declared.tree.Expr.TheVariants.{One, Two}
 use Rattle.vb_bound.specs.declared.tree.Condition.{Condition}
+use Rattle.vb_bound.specs.declared.tree.Statement.{Statement}
 use Rattle.vb_bound.specs.declared.tree.Statement.TheVariants.{Assign, WriteLine}
-use Rattle.vb_bound.specs.declared.tree.Line.{Line}
-use Rattle.vb_bound.specs.declared.tree.Line.TheVariants.{Does, While, EndWhile}
-use Rattle.vb_bound.specs.Tree.{Outline, outline}
+use Rattle.vb_bound.specs.Tree.{Block, lines_of, AreLines}
 use Rattle.vb_bind.specs.declared.names.KnownNames.{KnownNames}
+use Rattle.vb_bind.specs.Grammar.{IsBlockOf, AreDistinctNames, AreMixedLines, AreFitLines}
 
 -- goes on with what was read
 abbrev pub and_then : {A B : Type 0} → Option A → (A → Option B) → Option B
@@ -65,6 +75,10 @@ same_name n m = n.index == m.index
 -- one level of an expression, as `out-Expr` opens it
 abbrev pub Layer : Type 0
 Layer = Expr-F SyntaxExpr VariableInitializer
+
+-- one level of a statement's form, as `out-StatementForm` opens it
+abbrev pub FormLayer : Type 0
+FormLayer = StatementForm-F StatementForm BlockClause CaseClause CatchClause ElseIfClause SyntaxStatement
 
 -- the name that an expression is
 abbrev pub named : SyntaxExpr → Option Name
@@ -161,10 +175,10 @@ expr_at names x l = and_then (operand_read names x) (λ a. Some (One a))
 abbrev pub expr_read : List Name → SyntaxExpr → Option Expr
 expr_read names x = expr_at names x (out-Expr x)
 
--- LINES
+-- STATEMENTS
 
-abbrev pub assign_read : List Name → SyntaxExpr → SyntaxExpr → Option Line
-assign_read names a x = and_then (local_read names a) (λ y. and_then (expr_read names x) (λ e. Some (Does (Assign y e))))
+abbrev pub assign_read : List Name → SyntaxExpr → SyntaxExpr → Option Statement
+assign_read names a x = and_then (local_read names a) (λ y. and_then (expr_read names x) (λ e. Some (Assign y e)))
 
 abbrev pub is_write_line_at : KnownNames → Layer → Bool
 is_write_line_at known (Expr-F.MemberAccess x n []) = is_name_tree x known.console && same_name n known.write_line
@@ -179,43 +193,39 @@ abbrev pub argument_read : List Name → List SyntaxExpr → Option Expr
 argument_read names (x ∷ []) = expr_read names x
 argument_read names xs = None
 
-abbrev pub write_at : KnownNames → List Name → Layer → Option Line
-write_at known names (Expr-F.Invocation f xs) = if is_write_line known f then and_then (argument_read names xs) (λ e. Some (Does (WriteLine e))) else None
+abbrev pub write_at : KnownNames → List Name → Layer → Option Statement
+write_at known names (Expr-F.Invocation f xs) = if is_write_line known f then and_then (argument_read names xs) (λ e. Some (WriteLine e)) else None
 write_at known names l = None
 
-abbrev pub write_read : KnownNames → List Name → SyntaxExpr → Option Line
+abbrev pub write_read : KnownNames → List Name → SyntaxExpr → Option Statement
 write_read known names x = write_at known names (out-Expr x)
 
-abbrev pub while_at : List Name → Layer → Option Line
-while_at names (Expr-F.Binary o p q) = and_then (condition_read names p o q) (λ c. Some (While c))
-while_at names l = None
+-- a statement without a block
+abbrev pub statement_read : KnownNames → List Name → StatementForm → Option Statement
+statement_read known names (form.Assignment a x) = assign_read names a x
+statement_read known names (form.Invocation x) = write_read known names x
+statement_read known names f = None
+
+abbrev pub test_at : List Name → Layer → Option Condition
+test_at names (Expr-F.Binary o p q) = condition_read names p o q
+test_at names l = None
 
 -- the test of a loop
-abbrev pub while_read : List Name → SyntaxExpr → Option Line
-while_read names x = while_at names (out-Expr x)
+abbrev pub test_read : List Name → SyntaxExpr → Option Condition
+test_read names x = test_at names (out-Expr x)
 
-abbrev pub is_block : BlockWord → BlockWord → Bool
-is_block w v = sameb blocks w v
+-- The statements are this block, whose names and numbers are right where these are the locals.
+pub record IsGoodBlock (known : KnownNames) (names : List Name) (ss : List SyntaxStatement) (b : Block) : Type 0 where
+  pub is_block : IsBlockOf known names ss b
+  pub bound : AreLines (length names) (lines_of b)
+  pub mixed : AreMixedLines (lines_of b)
+  pub fit : AreFitLines (lines_of b)
 
-abbrev pub line_read : KnownNames → List Name → Item → Option Line
-line_read known names (item.Assignment a x) = assign_read names a x
-line_read known names (item.Invocation x) = write_read known names x
-line_read known names (item.While x) = while_read names x
-line_read known names (item.End w) = if is_block w block.While then Some EndWhile else None
-line_read known names i = None
+-- they are no such block, where the names are different
+abbrev pub IsNoBlock : KnownNames → List Name → List SyntaxStatement → Type 0
+IsNoBlock known names ss = AreDistinctNames known names → (b : Block) → IsGoodBlock known names ss b → ⊥
 
--- the loops that are open behind a line, of those that are open before it, if it ends none but an open one
-abbrev pub line_depth : ℕ → Line → Option ℕ
-line_depth depth (Does s) = Some depth
-line_depth depth (While test) = Some (depth + 1)
-line_depth zero EndWhile = None
-line_depth (suc depth) EndWhile = Some depth
-
-abbrev pub depth_after : ℕ → List Line → Option ℕ
-depth_after depth [] = Some depth
-depth_after depth (l ∷ ls) = and_then (line_depth depth l) (λ d. depth_after d ls)
-
--- THE FILE
+-- DECLARATIONS
 
 abbrev pub initial_read : List Name → Option VariableInitializer → Option (Option Operand)
 initial_read names None = Some None
@@ -253,70 +263,69 @@ abbrev pub declared_read : KnownNames → List Name → List Declarator → Opti
 declared_read known names (d ∷ []) = declarator_read known names d
 declared_read known names ds = None
 
-abbrev pub dim_read : KnownNames → List Name → Item → Option (Name × Option Operand)
-dim_read known names (item.Declaration local.Dim ds) = declared_read known names ds
-dim_read known names i = None
+abbrev pub dim_read : KnownNames → List Name → StatementForm → Option (Name × Option Operand)
+dim_read known names (form.LocalDeclaration local.Dim ds) = declared_read known names ds
+dim_read known names f = None
 
-abbrev pub is_end : Item → BlockWord → Bool
-is_end (item.End w) v = is_block w v
-is_end i v = false
+-- What the front of Main declares, and the statements behind that.
+pub record Front : Type 0 where
+  pub names : List Name
+  pub locals : List (Option Operand)
+  pub behind : List SyntaxStatement
 
--- the two items at the end, and nothing behind them
-abbrev pub is_ends : List Item → Bool
-is_ends (s ∷ m ∷ []) = is_end s block.Sub && is_end m block.Module
-is_ends is = false
+abbrev pub front : List Name → List (Option Operand) → List SyntaxStatement → Front
+front names locals behind = record { names = names; locals = locals; behind = behind }
 
--- the items behind the declarations
-abbrev pub lines_read : KnownNames → List Name → List (Option Operand) → List Line → ℕ → List Item → Option Outline
-lines_read known names locals lines depth [] = None
-lines_read known names locals lines depth (i ∷ is) = if is_ends (i ∷ is) then (if depth == 0 then Some (outline locals lines) else None) else and_then (line_read known names i) (λ x. and_then (line_depth depth x) (λ d. lines_read known names locals (lines ++ x ∷ []) d is))
-
-abbrev pub dim_or : Option (Name × Option Operand) → Option Outline → (Name → Option Operand → Option Outline) → Option Outline
+abbrev pub dim_or : Option (Name × Option Operand) → Option Front → (Name → Option Operand → Option Front) → Option Front
 dim_or None stop go = stop
 dim_or (Some d) stop go = go d.0 d.1
 
-abbrev pub dims_read : KnownNames → Name → List Name → List (Option Operand) → List Item → Option Outline
-dims_read known m names locals [] = None
-dims_read known m names locals (i ∷ is) = dim_or (dim_read known names i) (lines_read known names locals [] 0 (i ∷ is)) (λ s d. if is_new m names s then dims_read known m (names ++ s ∷ []) (locals ++ d ∷ []) is else None)
+-- the declarations, behind those of these names
+abbrev pub front_read : KnownNames → Name → List Name → List (Option Operand) → List SyntaxStatement → Option Front
+front_read known m names locals [] = Some (front names locals [])
+front_read known m names locals (s ∷ ss) = dim_or (dim_read known names s.form) (Some (front names locals (s ∷ ss))) (λ n d. if is_new m names n then front_read known m (names ++ n ∷ []) (locals ++ d ∷ []) ss else None)
+
+-- THE FILE
+
+-- the one element
+abbrev pub only : {X : Type 0} → List X → Option X
+only (x ∷ []) = Some x
+only xs = None
+
+abbrev pub is_empty : {X : Type 0} → List X → Bool
+is_empty [] = true
+is_empty (x ∷ xs) = false
 
 -- whether the names between the dots are the one of the namespace
 abbrev pub is_system : KnownNames → List (List Name) → Bool
 is_system known ((n ∷ []) ∷ []) = same_name n known.system
 is_system known ns = false
 
-abbrev pub is_imports : KnownNames → Item → Bool
-is_imports known (item.Imports ns) = is_system known ns
-is_imports known i = false
+abbrev pub members_at : Option Access → TypeForm → Option (List Member)
+members_at None (type_form.Module ms) = Some ms
+members_at a f = None
 
-abbrev pub module_named : KnownNames → DeclarationLine → Option Name
-module_named known (header.Module None n) = name_read known n
-module_named known d = None
+-- the members of a module without an access
+abbrev pub members_read : TypeDeclaration → Option (List Member)
+members_read d = members_at d.access d.form
 
-abbrev pub module_read : KnownNames → Item → Option Name
-module_read known (item.Declares d) = module_named known d
-module_read known i = None
-
-abbrev pub is_nothing : {A : Type 0} → List A → Bool
-is_nothing [] = true
-is_nothing (x ∷ xs) = false
-
+-- whether it is Main, and nothing else
 abbrev pub is_main_signature : KnownNames → MethodSignature → Bool
-is_main_signature known s = is_nothing s.type_parameters && (is_nothing s.parameters && same_name s.name known.main)
+is_main_signature known g = same_name g.name known.main && (is_empty g.type_parameters && is_empty g.parameters)
 
-abbrev pub is_main : KnownNames → DeclarationLine → Bool
-is_main known (header.Sub ms s is) = is_nothing ms && (is_nothing is && is_main_signature known s)
-is_main known d = false
+abbrev pub main_at : KnownNames → List Modifier → MemberForm → Option (List SyntaxStatement)
+main_at known [] (member.Sub g [] (Some body)) = if is_main_signature known g then Some body else None
+main_at known ms f = None
 
-abbrev pub is_sub : KnownNames → Item → Bool
-is_sub known (item.Declares d) = is_main known d
-is_sub known i = false
+-- the statements of Main
+abbrev pub main_read : KnownNames → Member → Option (List SyntaxStatement)
+main_read known x = main_at known x.modifiers x.form
 
--- the program of the items
-abbrev pub file_read : KnownNames → List Item → Option Outline
-file_read known (a ∷ b ∷ c ∷ is) = if is_imports known a && is_sub known c then and_then (module_read known b) (λ m. dims_read known m [] [] is) else None
-file_read known is = None
+-- the module's name and the statements of Main
+abbrev pub file_read : KnownNames → SourceFile → Option (Name × List SyntaxStatement)
+file_read known file = if is_empty file.options then and_then (only file.imports) (λ i. if is_system known i.namespaces then and_then (only file.types) (λ d. and_then (name_read known d.name) (λ m. and_then (members_read d) (λ ms. and_then (only ms) (λ x. and_then (main_read known x) (λ body. Some (m, body)))))) else None) else None
 
--- FORMS: the same tests, whatever the names and the numbers are
+-- FORMS: the same tests, whatever the names and the numbers are (but that a number is an Integer)
 
 abbrev pub is_some : {A : Type 0} → Option A → Bool
 is_some None = false
@@ -350,12 +359,12 @@ is_write_form_at known l = false
 abbrev pub is_write_form : KnownNames → SyntaxExpr → Bool
 is_write_form known x = is_write_form_at known (out-Expr x)
 
-abbrev pub is_while_form_at : Layer → Bool
-is_while_form_at (Expr-F.Binary o p q) = is_some (relation_read o) && (is_operand_form p && is_operand_form q)
-is_while_form_at l = false
+abbrev pub is_test_form_at : Layer → Bool
+is_test_form_at (Expr-F.Binary o p q) = is_some (relation_read o) && (is_operand_form p && is_operand_form q)
+is_test_form_at l = false
 
-abbrev pub is_while_form : SyntaxExpr → Bool
-is_while_form x = is_while_form_at (out-Expr x)
+abbrev pub is_test_form : SyntaxExpr → Bool
+is_test_form x = is_test_form_at (out-Expr x)
 
 abbrev pub is_initial_form : Option VariableInitializer → Bool
 is_initial_form None = true
@@ -374,24 +383,18 @@ abbrev pub is_dim_form : List Declarator → Bool
 is_dim_form (d ∷ []) = is_declarator_form d
 is_dim_form ds = false
 
--- whether the word is that of a block of a program
-abbrev pub is_end_form : BlockWord → Bool
-is_end_form block.Module = true
-is_end_form block.Sub = true
-is_end_form block.While = true
-is_end_form w = false
+abbrev pub is_form_at : KnownNames → FormLayer → Bool
+is_form_at known (StatementForm-F.LocalDeclaration local.Dim ds) = is_dim_form ds
+is_form_at known (StatementForm-F.Assignment a x) = is_assign_form a x
+is_form_at known (StatementForm-F.Invocation x) = is_write_form known x
+is_form_at known (StatementForm-F.While test body) = is_test_form test
+is_form_at known f = false
 
-abbrev pub is_header_form : KnownNames → DeclarationLine → Bool
-is_header_form known (header.Module None n) = true
-is_header_form known (header.Sub ms s is) = is_main known (header.Sub ms s is)
-is_header_form known d = false
+abbrev pub is_form : KnownNames → StatementForm → Bool
+is_form known f = is_form_at known (out-StatementForm f)
 
-abbrev pub is_form : KnownNames → Item → Bool
-is_form known (item.Imports ns) = is_system known ns
-is_form known (item.Declares d) = is_header_form known d
-is_form known (item.Declaration local.Dim ds) = is_dim_form ds
-is_form known (item.Assignment a x) = is_assign_form a x
-is_form known (item.Invocation x) = is_write_form known x
-is_form known (item.While x) = is_while_form x
-is_form known (item.End w) = is_end_form w
-is_form known i = false
+-- the earlier of two lines
+abbrev pub earlier : Option ℕ → Option ℕ → Option ℕ
+earlier None b = b
+earlier (Some n) None = Some n
+earlier (Some n) (Some m) = if nat_le n m then Some n else Some m

@@ -1,56 +1,26 @@
-// Whether an item is one of a program, whatever the names and the numbers are.
-ghost use Rattle.std.specs.Prelude.{◌≡◌, ◌↔◌, IsTrue};
-ghost use Rattle.vb_bind.specs.Grammar.{IsForm};
-ghost use Rattle.vb_bind.specs.Parsing.{is_operand_form as is_operand_tree, is_expr_form as is_expr_tree, is_assign_form as is_assign_item, is_argument_form as is_argument_list, is_write_form as is_write_tree, is_while_form as is_while_tree, is_initial_form as is_initial_tree, is_variable_form as is_variable_list, is_declarator_form as is_declarator_tree, is_dim_form as is_dim_list, is_end_form as is_end_word, is_header_form as is_header_line, is_form as is_form_item};
+// Whether a statement is one of a program, whatever the names and the numbers are.
+ghost use Rattle.std.specs.Prelude.{◌≡◌};
+ghost use Rattle.vb_bind.specs.Parsing.{is_operand_form as is_operand_tree, is_expr_form as is_expr_tree, is_assign_form as is_assign_pair, is_argument_form as is_argument_list, is_write_form as is_write_tree, is_test_form as is_test_tree, is_initial_form as is_initial_tree, is_variable_form as is_variable_list, is_declarator_form as is_declarator_tree, is_dim_form as is_dim_list, is_form};
 
 use crate::expressions::{name_of, number_of, operator_of, relation_of};
-use crate::lines::{is_integer_type, is_plain, is_write_line};
 use crate::names::KnownNames;
-use crate::program::{is_main, is_system};
+use crate::statements::{is_integer_type, is_plain, is_write_line};
 use vb_syntax::{
-    BlockWord, DeclarationLine, Declarator, Expr, Item, LocalModifier, VariableIdentifier,
-    VariableInitializer,
+    Declarator, Expr, LocalModifier, StatementForm, VariableIdentifier, VariableInitializer,
 };
 
-/// Whether an item is one of a program, whatever its names and its numbers are (Visual Basic Language Specification 11.0,
-/// 1.1). A number is still an Integer, and the names that the grammar uses stand where it uses them.
-pub fn has_form(known: &KnownNames, item: &Item) -> bool
-    ensures { IsTrue result ↔ IsForm known.now item.now }
+// Whether a statement's form is built. A number is still an Integer, and the names that the grammar uses stand where it uses
+// them. Of a While the inner statements don't matter.
+pub fn is_built(known: &KnownNames, form: &StatementForm) -> bool
+    ensures { result ≡ is_form known.now form.now }
 {
-    is_form(known, item)
-}
-
-fn is_form(known: &KnownNames, item: &Item) -> bool
-    ensures { result ≡ is_form_item known.now item.now }
-{
-    match item {
-        Item::Imports(namespaces) => is_system(known, namespaces.as_slice()),
-        Item::Declares(header) => is_header(known, header),
-        Item::Declaration(LocalModifier::Dim, declarators) => is_dim(declarators.as_slice()),
-        Item::Assignment(target, value) => is_assign(target, value),
-        Item::Invocation(call) => is_write(known, call),
-        Item::While(test) => is_while(test),
-        Item::End(word) => is_block_end(*word),
-        _ => false,
-    }
-}
-
-fn is_header(known: &KnownNames, header: &DeclarationLine) -> bool
-    ensures { result ≡ is_header_line known.now header.now }
-{
-    match header {
-        DeclarationLine::Module(None, _) => true,
-        DeclarationLine::Sub(_, _, _) => is_main(known, header),
-        _ => false,
-    }
-}
-
-// Whether the word is that of a block of a program.
-fn is_block_end(word: BlockWord) -> bool
-    ensures { result ≡ is_end_word word }
-{
-    match word {
-        BlockWord::Module | BlockWord::Sub | BlockWord::While => true,
+    match form {
+        StatementForm::LocalDeclaration(LocalModifier::Dim, declarators) => {
+            is_dim(declarators.as_slice())
+        }
+        StatementForm::Assignment(target, value) => is_assign(target, value),
+        StatementForm::Invocation(call) => is_write(known, call),
+        StatementForm::While(test, _) => is_test(test),
         _ => false,
     }
 }
@@ -74,7 +44,7 @@ fn is_expr(expr: &Expr) -> bool
 }
 
 fn is_assign(target: &Expr, value: &Expr) -> bool
-    ensures { result ≡ is_assign_item target.now value.now }
+    ensures { result ≡ is_assign_pair target.now value.now }
 {
     name_of(target).is_some() && is_expr(value)
 }
@@ -101,8 +71,8 @@ fn is_argument(arguments: &[Expr]) -> bool
 }
 
 // The test of a loop: a relation between two operands.
-fn is_while(test: &Expr) -> bool
-    ensures { result ≡ is_while_tree test.now }
+fn is_test(test: &Expr) -> bool
+    ensures { result ≡ is_test_tree test.now }
 {
     match test {
         Expr::Binary(relation, left, right) => {

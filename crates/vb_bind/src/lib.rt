@@ -1,15 +1,19 @@
-//! Reads the items of a Visual Basic file, the syntax trees of its lines, into a program whose names are bound.
+//! Reads the syntax tree of a Visual Basic file into a program whose names are bound, and tells the first line that has a form
+//! which no program has.
 #![tactic(auto)]
 
+mod blocks;
 mod expressions;
 mod forms;
-mod lines;
 mod names;
+mod outer;
 mod program;
+mod statements;
+mod unbuilt;
 
-pub use forms::has_form;
 pub use names::KnownNames;
 pub use program::{ReadErr, one_program, read_program};
+pub use unbuilt::{first_unbuilt, programs_are_built};
 
 #[cfg(test)]
 mod tests;

@@ -2,11 +2,13 @@ use super::*;
 use sqlite_items::{Boxed, Items};
 use std::alloc::{AllocError, Global};
 use std::test::Fail;
-use vb_bound::{Operand, Program, Statement};
+use vb_bound::{Operand, Program};
 use vb_syntax::{
-    BinaryOperator, BlockWord, BuiltInTypeName, DeclarationLine, Declarator, Expr, IntegerLiteral,
-    IntegerType, Item, LocalModifier, MethodSignature, PrimitiveTypeName, RelationalOperator,
-    SimpleTypeName, TypeName, VariableIdentifier, VariableInitializer, VariableModifier,
+    Access, BinaryOperator, BuiltInTypeName, Declarator, Expr, ImportsStatement, IntegerLiteral,
+    IntegerType, LocalModifier, Member, MemberForm, MethodSignature, Modifier, OptionSetting,
+    OptionStatement, PrimitiveTypeName, RelationalOperator, SimpleTypeName, SourceFile, Statement,
+    StatementForm, TypeDeclaration, TypeForm, TypeName, VariableIdentifier, VariableInitializer,
+    VariableModifier,
 };
 use vb_text::{Name, NameTable};
 
@@ -62,23 +64,6 @@ fn expr(alloc: Global, names: &mut NameTable, text: &str) -> Result<Expr, AllocE
     }
 }
 
-fn imports(alloc: Global, name: Name) -> Result<Item, AllocError> {
-    let mut parts = Items::new(alloc);
-    parts.push(name)?;
-    let mut namespaces = Items::new(alloc);
-    namespaces.push(parts)?;
-    Ok(Item::Imports(namespaces))
-}
-
-fn block_end(word: &str) -> Item {
-    match word {
-        "Sub" => Item::End(BlockWord::Sub),
-        "Module" => Item::End(BlockWord::Module),
-        "If" => Item::End(BlockWord::If),
-        _ => Item::End(BlockWord::While),
-    }
-}
-
 // A variable, of an array where `()` stands behind its name.
 fn variable(names: &mut NameTable, text: &str) -> Result<VariableIdentifier, AllocError> {
     let (name, modifier) = match text.strip_suffix("()") {
@@ -116,7 +101,7 @@ fn declaration(
     names: &mut NameTable,
     modifier: LocalModifier,
     text: &str,
-) -> Result<Item, AllocError> {
+) -> Result<StatementForm, AllocError> {
     let (name, behind) = text.split_once(" As ").unwrap_or((text, "Integer"));
     let (word, value) = match behind.split_once(" = ") {
         Some((word, value)) => (word, Some(value)),
@@ -127,7 +112,7 @@ fn declaration(
     let initial = initial(alloc, names, value)?;
     let mut declarators = Items::new(alloc);
     declarators.push(Declarator::As(variables, type_name(word), initial))?;
-    Ok(Item::Declaration(modifier, declarators))
+    Ok(StatementForm::LocalDeclaration(modifier, declarators))
 }
 
 // The one argument, or the two that a comma parts.
@@ -149,12 +134,12 @@ fn call(
     names: &mut NameTable,
     member: &str,
     text: &str,
-) -> Result<Item, AllocError> {
+) -> Result<StatementForm, AllocError> {
     let console = Expr::SimpleName(names.intern("console")?, Items::new(alloc));
     let object = Boxed::new(alloc, console)?;
     let member = names.intern(member)?;
     let callee = Boxed::new(alloc, Expr::MemberAccess(object, member, Items::new(alloc)))?;
-    Ok(Item::Invocation(Expr::Invocation(callee, arguments(alloc, names, text)?)))
+    Ok(StatementForm::Invocation(Expr::Invocation(callee, arguments(alloc, names, text)?)))
 }
 
 fn assign(
@@ -162,70 +147,208 @@ fn assign(
     names: &mut NameTable,
     target: &str,
     value: &str,
-) -> Result<Item, AllocError> {
+) -> Result<StatementForm, AllocError> {
     let target = operand(alloc, names, target)?;
-    Ok(Item::Assignment(target, expr(alloc, names, value)?))
+    Ok(StatementForm::Assignment(target, expr(alloc, names, value)?))
 }
 
-// The header of a Sub.
-fn header(alloc: Global, name: Name) -> Item {
-    let signature = MethodSignature {
-        name,
-        type_parameters: Items::new(alloc),
-        parameters: Items::new(alloc),
-    };
-    Item::Declares(DeclarationLine::Sub(Items::new(alloc), signature, Items::new(alloc)))
-}
-
-// The item of a line: `Write` and `WriteLine` are called with what stands behind.
-fn item(alloc: Global, names: &mut NameTable, line: &str) -> Result<Item, AllocError> {
+// The statement of a line: `Write` and `WriteLine` are called with what stands behind.
+fn form(alloc: Global, names: &mut NameTable, line: &str) -> Result<StatementForm, AllocError> {
     if let Some((target, value)) = line.split_once(" := ") {
         return assign(alloc, names, target, value);
     }
     let (word, behind) = line.split_once(' ').unwrap_or((line, ""));
     match word {
-        "Imports" => imports(alloc, names.intern(behind)?),
-        "Module" => Ok(Item::Declares(DeclarationLine::Module(None, names.intern(behind)?))),
-        "Sub" => Ok(header(alloc, names.intern(behind)?)),
         "Dim" => declaration(alloc, names, LocalModifier::Dim, behind),
         "Const" => declaration(alloc, names, LocalModifier::Const, behind),
-        "While" => Ok(Item::While(expr(alloc, names, behind)?)),
-        "End" => Ok(block_end(behind)),
+        "Return" => Ok(StatementForm::Return(None)),
         _ => call(alloc, names, word, behind),
     }
 }
 
-fn push(
+// The first line of the statements of `Main`.
+const FIRST_LINE: u32 = 5;
+
+// The statements of these lines, on lines of their own. Those of a While stand before its `End While`.
+fn block(
     alloc: Global,
     names: &mut NameTable,
-    items: &mut Vec<Item>,
     lines: &[&str],
+) -> Result<Items<Statement>, AllocError> {
+    let mut outer: Vec<(u32, Expr, Items<Statement>)> = Vec::new(alloc);
+    let mut block = Items::new(alloc);
+    let mut line = FIRST_LINE;
+    for text in lines {
+        if let Some(test) = text.strip_prefix("While ") {
+            outer.push((line, expr(alloc, names, test)?, block))?;
+            block = Items::new(alloc);
+        } else if *text == "End While" {
+            if let Some((line, test, mut before)) = outer.pop() {
+                let form = StatementForm::While(test, block);
+                before.push(Statement { line, form })?;
+                block = before;
+            }
+        } else {
+            let form = form(alloc, names, text)?;
+            block.push(Statement { line, form })?;
+        }
+        line = line.wrapping_add(1);
+    }
+    Ok(block)
+}
+
+fn one<T: Drop>(alloc: Global, item: T) -> Result<Items<T>, AllocError> {
+    let mut items = Items::new(alloc);
+    items.push(item)?;
+    Ok(items)
+}
+
+fn imports(alloc: Global, name: Name) -> Result<ImportsStatement, AllocError> {
+    Ok(ImportsStatement {
+        line: 2,
+        namespaces: one(alloc, one(alloc, name)?)?,
+    })
+}
+
+// A procedure of this name, without anything else.
+fn sub(alloc: Global, name: Name, body: Items<Statement>) -> Member {
+    Member {
+        line: 4,
+        modifiers: Items::new(alloc),
+        form: MemberForm::Sub {
+            signature: MethodSignature {
+                name,
+                type_parameters: Items::new(alloc),
+                parameters: Items::new(alloc),
+            },
+            implements: Items::new(alloc),
+            body: Some(body),
+        },
+    }
+}
+
+fn module(alloc: Global, name: Name, member: Member) -> Result<TypeDeclaration, AllocError> {
+    Ok(TypeDeclaration {
+        line: 3,
+        access: None,
+        name,
+        form: TypeForm::Module(one(alloc, member)?),
+    })
+}
+
+// How a file differs around the statements of `Main` from that of a program.
+#[derive(Clone, Copy)]
+enum Change {
+    Nothing,
+    AnOption,
+    NoImports,
+    OtherImports,
+    TwoImports,
+    PublicModule,
+    TwoModules,
+    OtherSub,
+    PublicSub,
+    NoBody,
+}
+
+fn push_imports(
+    alloc: Global,
+    names: &mut NameTable,
+    change: Change,
+    all: &mut Items<ImportsStatement>,
 ) -> Result<(), AllocError> {
-    for line in lines {
-        items.push(item(alloc, names, line)?)?;
+    let system = names.intern("SYSTEM")?;
+    match change {
+        Change::NoImports => {}
+        Change::OtherImports => all.push(imports(alloc, names.intern("Squares")?)?)?,
+        Change::TwoImports => {
+            all.push(imports(alloc, system)?)?;
+            all.push(imports(alloc, system)?)?;
+        }
+        _ => all.push(imports(alloc, system)?)?,
     }
     Ok(())
 }
 
-// What is read of the file whose `Main` has these lines.
-fn read(alloc: Global, main: &[&str]) -> Result<Result<Program, ReadErr>, Fail> {
-    let mut names = NameTable::new(alloc)?;
-    let known = KnownNames::new(&mut names)?;
-    let mut items = Vec::new(alloc);
-    let header = ["Imports SYSTEM", "Module Squares", "Sub Main"];
-    push(alloc, &mut names, &mut items, header.as_slice())?;
-    push(alloc, &mut names, &mut items, main)?;
-    let ends = ["End Sub", "End Module"];
-    push(alloc, &mut names, &mut items, ends.as_slice())?;
-    Ok(read_program(alloc, &known, &items))
+// The procedure that has these statements.
+fn main_of(
+    alloc: Global,
+    names: &mut NameTable,
+    change: Change,
+    main: &[&str],
+) -> Result<Member, AllocError> {
+    let body = block(alloc, names, main)?;
+    let name = match change {
+        Change::OtherSub => names.intern("Squares")?,
+        _ => names.intern("MAIN")?,
+    };
+    let mut member = sub(alloc, name, body);
+    match change {
+        Change::PublicSub => member.modifiers.push(Modifier::Access(Access::Public))?,
+        Change::NoBody => member.form = MemberForm::Variables(Items::new(alloc)),
+        _ => {}
+    }
+    Ok(member)
 }
 
-fn is_read(alloc: Global, main: &[&str]) -> Result<bool, Fail> {
-    match read(alloc, main)? {
+fn file(
+    alloc: Global,
+    names: &mut NameTable,
+    change: Change,
+    main: &[&str],
+) -> Result<SourceFile, AllocError> {
+    let mut file = SourceFile {
+        file: 0,
+        options: Items::new(alloc),
+        imports: Items::new(alloc),
+        types: Items::new(alloc),
+    };
+    if let Change::AnOption = change {
+        file.options.push(OptionStatement {
+            line: 1,
+            setting: OptionSetting::CompareText,
+        })?;
+    }
+    push_imports(alloc, names, change, &mut file.imports)?;
+    let name = names.intern("Squares")?;
+    let mut declared = module(alloc, name, main_of(alloc, names, change, main)?)?;
+    if let Change::PublicModule = change {
+        declared.access = Some(Access::Public);
+    }
+    file.types.push(declared)?;
+    if let Change::TwoModules = change {
+        let other = names.intern("Others")?;
+        file.types.push(module(alloc, other, main_of(alloc, names, change, main)?)?)?;
+    }
+    Ok(file)
+}
+
+// What is read of a file so changed whose `Main` has these lines.
+fn read_changed(
+    alloc: Global,
+    change: Change,
+    main: &[&str],
+) -> Result<Result<Program, ReadErr>, Fail> {
+    let mut names = NameTable::new(alloc)?;
+    let known = KnownNames::new(&mut names)?;
+    let file = file(alloc, &mut names, change, main)?;
+    Ok(read_program(alloc, &known, &file))
+}
+
+fn is_read(alloc: Global, change: Change, main: &[&str]) -> Result<bool, Fail> {
+    match read_changed(alloc, change, main)? {
         Ok(_) => Ok(true),
         Err(ReadErr::Refused) => Ok(false),
         Err(ReadErr::Memory) => Err(Fail::from(AllocError)),
     }
+}
+
+// The first line that has a form which isn't built.
+fn unbuilt(alloc: Global, change: Change, main: &[&str]) -> Result<Option<u32>, AllocError> {
+    let mut names = NameTable::new(alloc)?;
+    let known = KnownNames::new(&mut names)?;
+    let file = file(alloc, &mut names, change, main)?;
+    Ok(first_unbuilt(&known, &file))
 }
 
 #[test]
@@ -249,17 +372,22 @@ fn reads_programs(rt: HostRuntime) -> Result<(), Fail> {
         &["WRITELINE 1"],
     ];
     for main in cases {
-        assert!(rt; is_read(rt.alloc(), main)?);
+        assert!(rt; is_read(rt.alloc(), Change::Nothing, main)?);
+        assert_eq!(rt; unbuilt(rt.alloc(), Change::Nothing, main)?, None);
     }
     Ok(())
 }
 
 #[test]
 fn refuses_what_is_no_program(rt: HostRuntime) -> Result<(), Fail> {
-    let cases: [&[&str]; 19] = [
-        &["End While"],
-        &["End If"],
-        &["Dim a As Integer", "While a < 1"],
+    let cases: [&[&str]; 18] = [
+        &["Return"],
+        &[
+            "Dim a As Integer",
+            "While a < 1",
+            "Dim b As Integer",
+            "End While",
+        ],
         &["WriteLine a"],
         &["Dim a As Integer = b", "Dim b As Integer"],
         &["Dim a As Integer", "Dim A As Integer"],
@@ -278,7 +406,7 @@ fn refuses_what_is_no_program(rt: HostRuntime) -> Result<(), Fail> {
         &["Dim a As Integer", "a := 1", "Dim b As Integer"],
     ];
     for main in cases {
-        assert!(rt; !is_read(rt.alloc(), main)?);
+        assert!(rt; !is_read(rt.alloc(), Change::Nothing, main)?);
     }
     Ok(())
 }
@@ -286,13 +414,13 @@ fn refuses_what_is_no_program(rt: HostRuntime) -> Result<(), Fail> {
 #[test]
 fn binds_names_and_numbers(rt: HostRuntime) -> Result<(), Fail> {
     let main: [&str; 3] = ["Dim a As Integer = 16", "Dim End As Integer", "END := A"];
-    match read(rt.alloc(), &main)? {
+    match read_changed(rt.alloc(), Change::Nothing, &main)? {
         Ok(program) => {
             let locals = [Some(Operand::Number(16)), None];
             assert_eq!(rt; program.locals(), locals.as_slice());
             let target = vb_bound::LocalId(1);
             let value = vb_bound::Expr::One(Operand::Local(vb_bound::LocalId(0)));
-            let assigns = vb_bound::Line::Does(Statement::Assign(target, value));
+            let assigns = vb_bound::Line::Does(vb_bound::Statement::Assign(target, value));
             assert_eq!(rt; program.lines(), [assigns].as_slice());
         }
         Err(_) => assert!(rt; false),
@@ -307,65 +435,101 @@ fn reads_loops_in_loops(rt: HostRuntime) -> Result<(), Fail> {
     for _ in 0..50 {
         main.push("While a < 1")?;
     }
+    main.push("WriteLine a")?;
     for _ in 0..50 {
         main.push("End While")?;
     }
-    assert!(rt; is_read(rt.alloc(), &main)?);
-    Ok(())
-}
-
-// Whether each item is of a form, or none is.
-fn are_forms(known: &KnownNames, items: &[Item], of_a_form: bool) -> bool {
-    for item in items {
-        if has_form(known, item) != of_a_form {
-            return false;
-        }
+    match read_changed(rt.alloc(), Change::Nothing, &main)? {
+        Ok(program) => assert_eq!(rt; program.lines().len(), 101),
+        Err(_) => assert!(rt; false),
     }
-    true
-}
-
-fn all_are(alloc: Global, lines: &[&str], of_a_form: bool) -> Result<bool, AllocError> {
-    let mut names = NameTable::new(alloc)?;
-    let known = KnownNames::new(&mut names)?;
-    let mut items = Vec::new(alloc);
-    push(alloc, &mut names, &mut items, lines)?;
-    Ok(are_forms(&known, &items, of_a_form))
+    Ok(())
 }
 
 #[test]
 fn tells_forms(rt: HostRuntime) -> Result<(), Fail> {
-    let forms = [
-        "Imports System",
-        "Module Squares",
-        "Sub Main",
-        "Dim a As Integer",
-        "Dim a As Integer = b",
-        "a := 1 + 2",
-        "WriteLine a * b",
-        "While a < 1",
-        "End While",
+    let forms: [&[&str]; 6] = [
+        &["Dim a As Integer"],
+        &["Dim a As Integer = b"],
+        &["a := 1 + 2"],
+        &["WriteLine a * b"],
+        &["While a < 1", "a := b", "Dim b As Integer", "End While"],
+        &["a := 1", "Dim a As Integer", "Dim A As Integer"],
     ];
-    assert!(rt; all_are(rt.alloc(), forms.as_slice(), true)?);
+    for main in forms {
+        assert_eq!(rt; unbuilt(rt.alloc(), Change::Nothing, main)?, None);
+    }
     Ok(())
 }
 
 #[test]
 fn tells_other_forms(rt: HostRuntime) -> Result<(), Fail> {
-    let others = [
-        "Imports Squares",
-        "Sub Squares",
-        "Dim a As Integer = a + 1",
-        "Dim a As Long",
-        "Dim a() As Integer",
-        "Const a As Integer = 1",
-        "a := 1 < 2",
-        "1 := a",
-        "WriteLine 2147483648",
-        "WriteLine a, b",
-        "Write a",
-        "While a",
-        "End If",
+    let others: [&[&str]; 11] = [
+        &["Dim a As Integer = a + 1"],
+        &["Dim a As Long"],
+        &["Dim a() As Integer"],
+        &["Const a As Integer = 1"],
+        &["a := 1 < 2"],
+        &["1 := a"],
+        &["WriteLine 2147483648"],
+        &["WriteLine a, b"],
+        &["Write a"],
+        &["While a", "End While"],
+        &["Return"],
     ];
-    assert!(rt; all_are(rt.alloc(), others.as_slice(), false)?);
+    for main in others {
+        assert_eq!(rt; unbuilt(rt.alloc(), Change::Nothing, main)?, Some(5));
+    }
+    Ok(())
+}
+
+#[test]
+fn tells_the_first_line(rt: HostRuntime) -> Result<(), Fail> {
+    let cases: [(&[&str], u32); 5] = [
+        (&["a := 1", "Return", "Write a"], 6),
+        (&["While a < 1", "a := 1", "Return", "End While"], 7),
+        (
+            &[
+                "While a < 1",
+                "While b < 1",
+                "Return",
+                "End While",
+                "End While",
+                "Return",
+            ],
+            7,
+        ),
+        (&["a := 1", "While a", "Return", "End While"], 6),
+        (
+            &["While a < 1", "While b", "End While", "Return", "End While"],
+            6,
+        ),
+    ];
+    for (main, line) in cases {
+        assert_eq!(rt; unbuilt(rt.alloc(), Change::Nothing, main)?, Some(line));
+    }
+    Ok(())
+}
+
+// Around `Main`, a form that isn't built is told before one inside. Too many or too few parts have each a form, and are no
+// program either.
+#[test]
+fn tells_forms_around_main(rt: HostRuntime) -> Result<(), Fail> {
+    let cases = [
+        (Change::Nothing, true, Some(5)),
+        (Change::AnOption, false, Some(1)),
+        (Change::NoImports, false, Some(5)),
+        (Change::OtherImports, false, Some(2)),
+        (Change::TwoImports, false, Some(5)),
+        (Change::PublicModule, false, Some(3)),
+        (Change::TwoModules, false, Some(5)),
+        (Change::OtherSub, false, Some(4)),
+        (Change::PublicSub, false, Some(4)),
+        (Change::NoBody, false, Some(4)),
+    ];
+    for (change, is_program, line) in cases {
+        assert_eq!(rt; is_read(rt.alloc(), change, &["WriteLine 1"])?, is_program);
+        assert_eq!(rt; unbuilt(rt.alloc(), change, &["Return"])?, line);
+    }
     Ok(())
 }

@@ -1,17 +1,23 @@
-use Rattle.vb_bound.specs.Tree.{Tree, IsOutlineOf}
-use Rattle.vb_bind.specs.Grammar.{IsProgramOf}
+use Rattle.std.proofs.Common.{◌≡◌, Some, ap, rules, subst}
+use Rattle.vb_bound.specs.Tree.{Block, Tree, Outline, IsBound}
 use Rattle.vb_bind.specs.Parsing.{file_read}
-use Rattle.vb_bind.proofs.Files.{parsed, refused_items, result_read, result_refused}
+use Rattle.vb_bind.proofs.Files.{parsed, no_front, both_ok}
 use Rattle.vb_bind.proofs.program.read_program.Goals as goal
 
-pub returns-clause-read : goal.returns-clause-read
-returns-clause-read c =
+pub returns-in-Some-clause-read : goal.returns-in-Some-clause-read
+returns-in-Some-clause-read c =
     let known = c.args.known.now in
-    let items = c.args.items.now in
-    result_read c.program_of.result (file_read known items) (λ p. (t : Tree) × IsProgramOf known items t × IsOutlineOf p t) c.program_of.ensures.read c.program_of.ensures.bound (parsed known items)
+    let file = c.args.file.now in
+    let read : file_read known file ≡ Some (c.in-Some.own_name, c.in-Some.body.now) = search rules in
+    both_ok c.program_of.result _ _ _ c.program_of.ensures.read c.program_of.ensures.bound
+    (λ p r bound.
+    let b : Block = r.1 in
+    let t : Tree = record { locals = r.0.locals; body = b } in
+    (t, parsed known file c.in-Some.own_name c.in-Some.body.now r.0 b read r.2 r.3 (subst (λ (x : Outline). IsBound x) r.4 bound), record { locals = ap (λ (x : Outline). x.locals) r.4; lines = ap (λ (x : Outline). x.lines) r.4 }))
 
-pub returns-clause-refused : goal.returns-clause-refused
-returns-clause-refused c =
+pub returns-in-Some-clause-refused : goal.returns-in-Some-clause-refused
+returns-in-Some-clause-refused c =
     let known = c.args.known.now in
-    let items = c.args.items.now in
-    result_refused c.program_of.result (file_read known items) ((t : Tree) → IsProgramOf known items t → ⊥) c.program_of.ensures.read (refused_items known items)
+    let file = c.args.file.now in
+    let read : file_read known file ≡ Some (c.in-Some.own_name, c.in-Some.body.now) = search rules in
+    λ e. no_front known file c.in-Some.own_name c.in-Some.body.now read (c.program_of.ensures.refused e)

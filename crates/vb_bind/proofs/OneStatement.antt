@@ -1,4 +1,4 @@
--- An item that is read is one of the grammar, and an item of the grammar is read.
+-- A statement that is read is one of the grammar, and a statement of the grammar is read.
 use Rattle.std.proofs.Common.{◌≡◌, inl, inr, ℕ, zero, suc, ◌+◌, ◌<◌, Bool, true, List, [], ◌∷◌, length, Option, Some, None, refl, sym, ap, subst, ◌∙◌, arith}
 use Rattle.std.specs.Prelude.{if◌then◌else◌, ◌&&◌, slice_get, unwrap_or}
 use Rattle.vb_text.specs.declared.names.Name.{Name}
@@ -11,9 +11,8 @@ use Rattle.vb_syntax.specs.declared.expression.Expr.{Expr as SyntaxExpr, out-Exp
 use Rattle.vb_syntax.specs.declared.expression.Expr.TheOpen.{Expr-F}
 use Rattle.vb_syntax.specs.declared.expression.Expr.TheVariants as tree
 use Rattle.vb_syntax.specs.declared.expression.Expr.TheVariants.{outs-SimpleName, outs-Integer, outs-Binary, outs-Invocation, outs-MemberAccess}
-use Rattle.vb_syntax.specs.declared.item.Item.{Item}
-use Rattle.vb_syntax.specs.declared.item.Item.TheVariants as item
-use Rattle.vb_syntax.specs.declared.item.BlockWord.TheVariants as block
+use Rattle.vb_syntax.specs.declared.statement.StatementForm.{StatementForm}
+use Rattle.vb_syntax.specs.declared.statement.StatementForm.TheVariants as form
 use Rattle.vb_bound.specs.declared.tree.LocalId.{LocalId}
 use Rattle.vb_bound.specs.declared.tree.Operand.{Operand}
 use Rattle.vb_bound.specs.declared.tree.Operand.TheVariants.{Local, Number}
@@ -24,21 +23,21 @@ use Rattle.vb_bound.specs.declared.tree.Relation.TheVariants.{Equal, NotEqual, L
 use Rattle.vb_bound.specs.declared.tree.Expr.{Expr}
 use Rattle.vb_bound.specs.declared.tree.Expr.TheVariants.{One, Two}
 use Rattle.vb_bound.specs.declared.tree.Condition.{Condition}
+use Rattle.vb_bound.specs.declared.tree.Statement.{Statement}
 use Rattle.vb_bound.specs.declared.tree.Statement.TheVariants.{Assign, WriteLine}
-use Rattle.vb_bound.specs.declared.tree.Line.{Line}
-use Rattle.vb_bound.specs.declared.tree.Line.TheVariants.{Does, While, EndWhile}
-use Rattle.vb_bound.specs.Tree.{IsOperandOf, IsExprOf, IsLineOf}
+use Rattle.vb_bound.specs.declared.tree.Line.TheVariants.{Does}
+use Rattle.vb_bound.specs.Tree.{IsOperandOf, IsExprOf, IsStatementOf}
 use Rattle.vb_bind.specs.declared.names.KnownNames.{KnownNames}
-use Rattle.vb_bind.specs.Grammar.{name_at, operand_tree, binary_of, relation_of, expr_tree, line_item, IsIn, AreDistinctNames, AreMixed, IsMixedExpr, IsMixedLine, IsFit, IsFitExpr, IsFitLine}
-use Rattle.vb_bind.specs.Parsing.{and_then, Layer, named, is_name_tree, same_name, number_read, local_from, local_read, operand_read, operator_read, relation_from, relation_read, are_mixed, two_operands, condition_operands, two_read, condition_read, expr_at, expr_read, is_block, assign_read, is_write_line_at, is_write_line, argument_read, write_at, write_read, while_at, while_read, line_read}
-use Rattle.vb_bind.proofs.Trees.{by_test, then_is, if_is, and_is, same_is, same_self, is_same, others, named_is, name_is, binary_is, call_is, member_is, block_is, number_is, integer_made}
+use Rattle.vb_bind.specs.Grammar.{name_at, operand_tree, binary_of, relation_of, expr_tree, statement_form, test_tree, IsIn, AreDistinctNames, AreMixed, IsMixedExpr, IsMixedLine, IsFit, IsFitExpr, IsFitLine}
+use Rattle.vb_bind.specs.Parsing.{and_then, Layer, named, is_name_tree, same_name, number_read, local_from, local_read, operand_read, operator_read, relation_from, relation_read, are_mixed, two_operands, condition_operands, two_read, condition_read, expr_at, expr_read, assign_read, is_write_line_at, is_write_line, argument_read, write_at, write_read, statement_read, test_at, test_read}
+use Rattle.vb_bind.proofs.Trees.{by_test, then_is, if_is, and_is, same_is, same_self, is_same, others, named_is, name_is, binary_is, call_is, member_is, number_is, integer_made}
 
 -- no operator has two numbers, and each number is an Integer
 abbrev pub IsGoodExpr : Expr → Type 0
 IsGoodExpr e = IsMixedExpr e × IsFitExpr e
 
-abbrev pub IsGoodLine : Line → Type 0
-IsGoodLine l = IsMixedLine l × IsFitLine l
+abbrev pub IsGoodStatement : Statement → Type 0
+IsGoodStatement s = IsMixedLine (Does s) × IsFitLine (Does s)
 
 -- READ AND SO OF THE GRAMMAR
 
@@ -120,9 +119,6 @@ condition_is a r b c f g h =
     let is : ◌≡◌ {A = Condition} (record { left = a; relation = r; right = b }) c = let m = k.1 in cc in
     (is, subst (λ (y : Condition). IsGoodTest y) is (mixed_is a b k.0, (f, g)))
 
-abbrev pub test_tree : List Name → Condition → SyntaxExpr
-test_tree names c = tree.Binary (binary.Relational (relation_of c.relation)) (operand_tree names c.left) (operand_tree names c.right)
-
 pub condition_sound : (names : List Name) (p : SyntaxExpr) (o : BinaryOperator) (q : SyntaxExpr) (c : Condition) → condition_read names p o q ≡ Some c → (tree.Binary o p q ≡ test_tree names c) × IsGoodTest c
 condition_sound names p o q c h =
     let a = then_is (operand_read names p) _ c h in
@@ -148,13 +144,13 @@ expr_sound names x e h = by_layer (out-Expr x) refl h
     by_layer (Expr-F.Binary o p q) is k = let two = two_sound names p o q e k in (binary_is x o p q is ∙ two.0, two.1)
     by_layer l is k = one_sound names x e k
 
-pub assign_sound : (known : KnownNames) (names : List Name) (a x : SyntaxExpr) (l : Line) → assign_read names a x ≡ Some l → (item.Assignment a x ≡ line_item known names l) × IsGoodLine l
-assign_sound known names a x l h =
-    let y = then_is (local_read names a) (λ y. and_then (expr_read names x) (λ e. Some (Does (Assign y e)))) l h in
-    let e = then_is (expr_read names x) (λ e. Some (Does (Assign y.0 e))) l y.2 in
-    let is : Does (Assign y.0 e.0) ≡ l = let k = e.2 in cc in
+assign_sound : (known : KnownNames) (names : List Name) (a x : SyntaxExpr) (s : Statement) → assign_read names a x ≡ Some s → (form.Assignment a x ≡ statement_form known names s) × IsGoodStatement s
+assign_sound known names a x s h =
+    let y = then_is (local_read names a) (λ y. and_then (expr_read names x) (λ e. Some (Assign y e))) s h in
+    let e = then_is (expr_read names x) (λ e. Some (Assign y.0 e)) s y.2 in
+    let is : Assign y.0 e.0 ≡ s = let k = e.2 in cc in
     let value = expr_sound names x e.0 e.1 in
-    (ap (λ t. item.Assignment t x) (named_sound names a y.0 y.1) ∙ ap (λ t. item.Assignment (operand_tree names (Local y.0)) t) value.0 ∙ ap (λ m. line_item known names m) is, subst (λ m. IsGoodLine m) is value.1)
+    (ap (λ t. form.Assignment t x) (named_sound names a y.0 y.1) ∙ ap (λ t. form.Assignment (operand_tree names (Local y.0)) t) value.0 ∙ ap (λ m. statement_form known names m) is, subst (λ m. IsGoodStatement m) is value.1)
 
 abbrev pub write_line_tree : KnownNames → SyntaxExpr
 write_line_tree known = tree.MemberAccess (tree.SimpleName known.console []) known.write_line []
@@ -173,38 +169,29 @@ argument_sound names [] e h = absurd cc
 argument_sound names (x ∷ []) e h = let one = expr_sound names x e h in (ap (λ y. y ∷ []) one.0, one.1)
 argument_sound names (x ∷ y ∷ xs) e h = absurd cc
 
-pub write_sound : (known : KnownNames) (names : List Name) (x : SyntaxExpr) (l : Line) → write_read known names x ≡ Some l → (item.Invocation x ≡ line_item known names l) × IsGoodLine l
-write_sound known names x l h = by_layer (out-Expr x) refl h
+write_sound : (known : KnownNames) (names : List Name) (x : SyntaxExpr) (s : Statement) → write_read known names x ≡ Some s → (form.Invocation x ≡ statement_form known names s) × IsGoodStatement s
+write_sound known names x s h = by_layer (out-Expr x) refl h
   where
-    by_layer : (y : Layer) → out-Expr x ≡ y → write_at known names y ≡ Some l → (item.Invocation x ≡ line_item known names l) × IsGoodLine l
+    by_layer : (y : Layer) → out-Expr x ≡ y → write_at known names y ≡ Some s → (form.Invocation x ≡ statement_form known names s) × IsGoodStatement s
     by_layer (Expr-F.Invocation f xs) is h =
-        let k = if_is (is_write_line known f) (and_then (argument_read names xs) (λ e. Some (Does (WriteLine e)))) l h in
-        let e = then_is (argument_read names xs) (λ e. Some (Does (WriteLine e))) l k.1 in
-        let same : Does (WriteLine e.0) ≡ l = let m = e.2 in cc in
+        let k = if_is (is_write_line known f) (and_then (argument_read names xs) (λ e. Some (WriteLine e))) s h in
+        let e = then_is (argument_read names xs) (λ e. Some (WriteLine e)) s k.1 in
+        let same : WriteLine e.0 ≡ s = let m = e.2 in cc in
         let argument = argument_sound names xs e.0 e.1 in
-        (ap (λ t. item.Invocation t) (call_is x f xs is ∙ ap (λ g. tree.Invocation g xs) (write_line_is known f k.0) ∙ ap (λ ys. tree.Invocation (write_line_tree known) ys) argument.0) ∙ ap (λ m. line_item known names m) same, subst (λ m. IsGoodLine m) same argument.1)
+        (ap (λ t. form.Invocation t) (call_is x f xs is ∙ ap (λ g. tree.Invocation g xs) (write_line_is known f k.0) ∙ ap (λ ys. tree.Invocation (write_line_tree known) ys) argument.0) ∙ ap (λ m. statement_form known names m) same, subst (λ m. IsGoodStatement m) same argument.1)
     by_layer y is h = absurd cc
 
-pub while_sound : (known : KnownNames) (names : List Name) (x : SyntaxExpr) (l : Line) → while_read names x ≡ Some l → (item.While x ≡ line_item known names l) × IsGoodLine l
-while_sound known names x l h = by_layer (out-Expr x) refl h
+pub statement_sound : (known : KnownNames) (names : List Name) (f : StatementForm) (s : Statement) → statement_read known names f ≡ Some s → (f ≡ statement_form known names s) × IsGoodStatement s
+statement_sound known names (form.Assignment a x) s h = assign_sound known names a x s h
+statement_sound known names (form.Invocation x) s h = write_sound known names x s h
+statement_sound known names f s h = absurd cc
+
+pub test_sound : (names : List Name) (x : SyntaxExpr) (c : Condition) → test_read names x ≡ Some c → (x ≡ test_tree names c) × IsGoodTest c
+test_sound names x c h = by_layer (out-Expr x) refl h
   where
-    by_layer : (y : Layer) → out-Expr x ≡ y → while_at names y ≡ Some l → (item.While x ≡ line_item known names l) × IsGoodLine l
-    by_layer (Expr-F.Binary o p q) is h =
-        let c = then_is (condition_read names p o q) (λ c. Some (While c)) l h in
-        let same : While c.0 ≡ l = let k = c.2 in cc in
-        let test = condition_sound names p o q c.0 c.1 in
-        (ap (λ t. item.While t) (binary_is x o p q is ∙ test.0) ∙ ap (λ m. line_item known names m) same, subst (λ m. IsGoodLine m) same test.1)
+    by_layer : (y : Layer) → out-Expr x ≡ y → test_at names y ≡ Some c → (x ≡ test_tree names c) × IsGoodTest c
+    by_layer (Expr-F.Binary o p q) is h = let test = condition_sound names p o q c h in (binary_is x o p q is ∙ test.0, test.1)
     by_layer y is h = absurd cc
-
-pub line_sound : (known : KnownNames) (names : List Name) (i : Item) (l : Line) → line_read known names i ≡ Some l → (i ≡ line_item known names l) × IsGoodLine l
-line_sound known names (item.Assignment a x) l h = assign_sound known names a x l h
-line_sound known names (item.Invocation x) l h = write_sound known names x l h
-line_sound known names (item.While x) l h = while_sound known names x l h
-line_sound known names (item.End w) l h =
-    let k = if_is (is_block w block.While) (Some EndWhile) l h in
-    let is : EndWhile ≡ l = let m = k.1 in cc in
-    (ap (λ v. item.End v) (block_is w block.While k.0) ∙ ap (λ m. line_item known names m) is, subst (λ m. IsGoodLine m) is (tt, tt))
-line_sound known names i l h = absurd cc
 
 -- OF THE GRAMMAR AND SO READ
 
@@ -286,15 +273,15 @@ write_line_made known =
     ∙ ap (λ (p : Bool). p && same_name known.write_line known.write_line) (same_self known.console)
     ∙ same_self known.write_line
 
-pub line_made : (known : KnownNames) (names : List Name) (l : Line) → AreDistinctNames known names → IsLineOf (length names) l → IsGoodLine l → line_read known names (line_item known names l) ≡ Some l
-line_made known names (Does (Assign x e)) d a m =
-    ap (λ o. and_then o (λ y. and_then (expr_read names (expr_tree names e)) (λ z. Some (Does (Assign y z))))) (target_made known names x d a.0)
-    ∙ ap (λ o. and_then o (λ z. Some (Does (Assign x z)))) (expr_made known names e d a.1 m)
-line_made known names (Does (WriteLine e)) d a m =
+pub statement_made : (known : KnownNames) (names : List Name) (s : Statement) → AreDistinctNames known names → IsStatementOf (length names) s → IsGoodStatement s → statement_read known names (statement_form known names s) ≡ Some s
+statement_made known names (Assign x e) d a m =
+    ap (λ o. and_then o (λ y. and_then (expr_read names (expr_tree names e)) (λ z. Some (Assign y z)))) (target_made known names x d a.0)
+    ∙ ap (λ o. and_then o (λ z. Some (Assign x z))) (expr_made known names e d a.1 m)
+statement_made known names (WriteLine e) d a m =
     ap (λ l. write_at known names l) (outs-Invocation (write_line_tree known) (expr_tree names e ∷ []))
-    ∙ ap (λ (p : Bool). if p then and_then (expr_read names (expr_tree names e)) (λ z. Some (Does (WriteLine z))) else None) (write_line_made known)
-    ∙ ap (λ o. and_then o (λ z. Some (Does (WriteLine z)))) (expr_made known names e d a m)
-line_made known names (While c) d a m =
-    ap (λ l. while_at names l) (outs-Binary (binary.Relational (relation_of c.relation)) (operand_tree names c.left) (operand_tree names c.right))
-    ∙ ap (λ o. and_then o (λ z. Some (While z))) (condition_made known names c d a.0 a.1 m)
-line_made known names EndWhile d a m = refl
+    ∙ ap (λ (p : Bool). if p then and_then (expr_read names (expr_tree names e)) (λ z. Some (WriteLine z)) else None) (write_line_made known)
+    ∙ ap (λ o. and_then o (λ z. Some (WriteLine z))) (expr_made known names e d a m)
+
+pub test_made : (known : KnownNames) (names : List Name) (c : Condition) → AreDistinctNames known names → IsOperandOf (length names) c.left → IsOperandOf (length names) c.right → IsGoodTest c → test_read names (test_tree names c) ≡ Some c
+test_made known names c d a b m =
+    ap (λ l. test_at names l) (outs-Binary (binary.Relational (relation_of c.relation)) (operand_tree names c.left) (operand_tree names c.right)) ∙ condition_made known names c d a b m

@@ -2,16 +2,16 @@ use Rattle.std.proofs.Common.{◌≡◌, ◌+◌, ◌++◌, [], ◌∷◌, lengt
 use Rattle.vb_bound.specs.Tree.{AreLocals, IsInitialOf}
 use Rattle.vb_bind.specs.Parsing.{dim_read, is_new}
 use Rattle.vb_bind.proofs.Steps.{behind_first, first_is, dim_more, more_dims}
-use Rattle.vb_bind.proofs.program.body_of.Goals as goal
+use Rattle.vb_bind.proofs.program.program_of.Goals as goal
 
 pub loop-rest-preserved : goal.loop-rest-preserved
 loop-rest-preserved c =
     let names : c.push.new.self.items ≡ c.loop-rest.names.items ++ c.in-Some.name ∷ [] = search rules in
     let locals : c.push-else-is_err.new.self.items ≡ c.loop-rest.locals.items ++ c.in-Some.initial ∷ [] = search rules in
-    let first = c.item-item.result in
+    let first = c.statement-item.result in
     let behind = behind_first c.loop-rest.rest.now in
-    let split : c.loop-rest.rest.now ≡ first ∷ behind = first_is c.loop-rest.rest.now first c.in-len1-up.len_at_least c.item-item.is in
-    let dim : dim_read c.args.known.now c.loop-rest.names.items first ≡ Some (c.in-Some.name, c.in-Some.initial) = search rules in
+    let split : c.loop-rest.rest.now ≡ first ∷ behind = first_is c.loop-rest.rest.now first c.in-len1-up.len_at_least c.statement-item.is in
+    let dim : dim_read c.args.known.now c.loop-rest.names.items first.form ≡ Some (c.in-Some.name, c.in-Some.initial) = search rules in
     let new : is_new c.args.own_name c.loop-rest.names.items c.in-Some.name ≡ true = search rules in
     let len : length c.deref.result.now ≡ length c.loop-rest.names.items = ap length c.deref.ensures.value in
     let before : length c.loop-rest.locals.items ≡ length c.loop-rest.names.items = c.loop-rest.invariant.same in

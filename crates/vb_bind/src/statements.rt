@@ -1,56 +1,48 @@
-// The items of a program, each by itself.
-ghost use Rattle.std.specs.Prelude.{◌≡◌, ◌<◌, ◌≤◌, ◌+◌, length, IfSome};
-ghost use Rattle.vb_bound.specs.Tree.{IsExprOf, IsLineOf, IsInitialOf};
-ghost use Rattle.vb_bind.specs.Parsing.{assign_read, is_write_line as is_write_line_tree, argument_read, write_read, while_read, is_block as is_block_word, line_read, line_depth, initial_read, is_integer_type as is_integer_type_name, is_plain as is_plain_modifier, variable_read, declarator_read, declared_read, dim_read};
+// The statements of a program, each by itself.
+ghost use Rattle.std.specs.Prelude.{◌≡◌, length, IfSome};
+ghost use Rattle.vb_bound.specs.Tree.{IsExprOf, IsStatementOf, IsLineOf, IsInitialOf};
+ghost use Rattle.vb_bind.specs.Parsing.{assign_read, is_write_line as is_write_line_tree, argument_read, write_read, statement_read, test_read, initial_read, is_integer_type as is_integer_type_name, is_plain as is_plain_modifier, variable_read, declarator_read, declared_read, dim_read};
 
 use crate::expressions::{condition_of, expr_of, is_name, named_local, operand_of};
 use crate::names::{KnownNames, is_same, new_name_of};
-use vb_bound::{Expr, Line, Operand, Statement};
+use vb_bound::{Condition, Expr, Line, Operand, Statement};
 use vb_syntax::{
-    BlockWord, BuiltInTypeName, Declarator, Expr as SyntaxExpr, Item, LocalModifier,
-    PrimitiveTypeName, SimpleTypeName, TypeName, VariableIdentifier, VariableInitializer,
+    BuiltInTypeName, Declarator, Expr as SyntaxExpr, LocalModifier, PrimitiveTypeName,
+    SimpleTypeName, StatementForm, TypeName, VariableIdentifier, VariableInitializer,
     VariableModifier,
 };
 use vb_text::Name;
 
-// An item behind the declarations.
-pub fn line_of(known: &KnownNames, names: &[Name], item: &Item) -> Option<Line>
-    ensures line { result ≡ line_read known.now names.now item.now }
-    ensures bound { IfSome result (λ l. IsLineOf (length names.now) l) }
+// A statement without a block.
+pub fn statement_of(known: &KnownNames, names: &[Name], form: &StatementForm) -> Option<Statement>
+    ensures statement { result ≡ statement_read known.now names.now form.now }
+    ensures bound { IfSome result (λ s. IsStatementOf (length names.now) s) }
 {
-    match item {
-        Item::Assignment(target, value) => assign_of(names, target, value),
-        Item::Invocation(call) => write_of(known, names, call),
-        Item::While(test) => while_of(names, test),
-        Item::End(word) if is_block(*word, BlockWord::While) => Some(Line::EndWhile),
+    match form {
+        StatementForm::Assignment(target, value) => assign_of(names, target, value),
+        StatementForm::Invocation(call) => write_of(known, names, call),
         _ => None,
     }
 }
 
-pub fn is_block(word: BlockWord, wanted: BlockWord) -> bool
-    ensures { result ≡ is_block_word word wanted }
-{
-    word == wanted
-}
-
-fn assign_of(names: &[Name], target: &SyntaxExpr, value: &SyntaxExpr) -> Option<Line>
-    ensures line { result ≡ assign_read names.now target.now value.now }
-    ensures bound { IfSome result (λ l. IsLineOf (length names.now) l) }
+fn assign_of(names: &[Name], target: &SyntaxExpr, value: &SyntaxExpr) -> Option<Statement>
+    ensures statement { result ≡ assign_read names.now target.now value.now }
+    ensures bound { IfSome result (λ s. IsStatementOf (length names.now) s) }
 {
     let local = named_local(names, target)?;
     let expr = expr_of(names, value)?;
-    Some(Line::Does(Statement::Assign(local, expr)))
+    Some(Statement::Assign(local, expr))
 }
 
 // A call of the console.
-fn write_of(known: &KnownNames, names: &[Name], call: &SyntaxExpr) -> Option<Line>
-    ensures line { result ≡ write_read known.now names.now call.now }
-    ensures bound { IfSome result (λ l. IsLineOf (length names.now) l) }
+fn write_of(known: &KnownNames, names: &[Name], call: &SyntaxExpr) -> Option<Statement>
+    ensures statement { result ≡ write_read known.now names.now call.now }
+    ensures bound { IfSome result (λ s. IsStatementOf (length names.now) s) }
 {
     match call {
         SyntaxExpr::Invocation(callee, arguments) if is_write_line(known, callee.get()) => {
             let expr = argument_of(names, arguments.as_slice())?;
-            Some(Line::Does(Statement::WriteLine(expr)))
+            Some(Statement::WriteLine(expr))
         }
         _ => None,
     }
@@ -81,29 +73,18 @@ fn argument_of(names: &[Name], arguments: &[SyntaxExpr]) -> Option<Expr>
 }
 
 // The test of a loop.
-fn while_of(names: &[Name], test: &SyntaxExpr) -> Option<Line>
-    ensures line { result ≡ while_read names.now test.now }
-    ensures bound { IfSome result (λ l. IsLineOf (length names.now) l) }
+pub fn test_of(names: &[Name], test: &SyntaxExpr) -> Option<Condition>
+    ensures test { result ≡ test_read names.now test.now }
+    ensures bound { IfSome result (λ c. IsLineOf (length names.now) (Line.While c)) }
 {
     match test {
-        SyntaxExpr::Binary(relation, left, right) => {
-            let test = condition_of(names, left.get(), *relation, right.get())?;
-            Some(Line::While(test))
-        }
+        SyntaxExpr::Binary(relation, left, right) => condition_of(
+            names,
+            left.get(),
+            *relation,
+            right.get(),
+        ),
         _ => None,
-    }
-}
-
-// How many loops are open behind a line, of those that are open before it.
-pub fn depth_behind(depth: usize, line: &Line) -> Option<usize>
-    requires { depth < usize.MAX }
-    ensures counted { result ≡ line_depth depth line.now }
-    ensures grows { IfSome result (λ d. d ≤ depth + 1) }
-{
-    match line {
-        Line::Does(_) => Some(depth),
-        Line::While(_) => Some(depth + 1),
-        Line::EndWhile => depth.checked_sub(1),
     }
 }
 
@@ -153,12 +134,16 @@ fn variable_of(known: &KnownNames, variables: &[VariableIdentifier]) -> Option<N
 }
 
 // A declaration: the local's name and its value, if it is given one.
-pub fn dim_of(known: &KnownNames, names: &[Name], item: &Item) -> Option<(Name, Option<Operand>)>
-    ensures dim { result ≡ dim_read known.now names.now item.now }
+pub fn dim_of(
+    known: &KnownNames,
+    names: &[Name],
+    form: &StatementForm,
+) -> Option<(Name, Option<Operand>)>
+    ensures dim { result ≡ dim_read known.now names.now form.now }
     ensures bound { IfSome result (λ d. IsInitialOf (length names.now) d.1) }
 {
-    match item {
-        Item::Declaration(LocalModifier::Dim, declarators) => {
+    match form {
+        StatementForm::LocalDeclaration(LocalModifier::Dim, declarators) => {
             declared(known, names, declarators.as_slice())
         }
         _ => None,
