@@ -7,7 +7,10 @@ use Rattle.vb_text.specs.Names.{AreApart, Extends, IsNameOf, folding}
 use Rattle.vb_text.proofs.Growth.{kept_name}
 use Rattle.vb_syntax.specs.declared.tokens.Token.{Token}
 use Rattle.vb_syntax.specs.declared.tokens.Line.{Line}
+use Rattle.vb_syntax.specs.declared.declaration.ImportsStatement.{ImportsStatement}
+use Rattle.vb_syntax.specs.declared.declaration.SourceFile.{SourceFile}
 use Rattle.vb_syntax.specs.declared.item.Item.{Item}
+use Rattle.vb_syntax.specs.declared.item.Item.TheVariants as item
 use Rattle.vb_syntax.specs.declared.item.Row.{Row}
 use Rattle.vb_syntax.specs.declared.words.ContextualWords.{ContextualWords}
 use Rattle.vb_syntax.specs.ContextualWords.{AreWords, with_words}
@@ -16,13 +19,14 @@ use Rattle.vb_lexer.proofs.Unique.{table_unique, reading_unique}
 use Rattle.vb_rows.specs.Pieces.{label_of, pieces_of}
 use Rattle.vb_rows.specs.Rows.{items_behind, ArePieceRows, AreLineRows, label_rows, joined}
 use Rattle.vb_rows.specs.Files.{AreRowsOf}
+use Rattle.vb_blocks.specs.Trees.{whole, AreImports, nothing, more, IsTree, file}
 use Rattle.vb_bound.specs.Tree.{Tree}
 use Rattle.vb_bind.specs.declared.names.KnownNames.{KnownNames}
-use Rattle.vb_bind.specs.Grammar.{AreKnown, with_known, widest}
+use Rattle.vb_bind.specs.Grammar.{AreKnown, with_known, IsProgramOf, widest}
 use Rattle.vb_bind.proofs.Trees.{by_test}
 use Rattle.vb_bind.proofs.Widest.{is_wide as wide_first}
-use Rattle.vb_parse.specs.Rules.{BreaksLines}
-use Rattle.vb_top.specs.Programs.{HasLines, HasRows, AreItems, AreProgram, IsProgram, IsNoProgram}
+use Rattle.vb_parse.specs.Rules.{BreaksLines, IsTreeOf}
+use Rattle.vb_top.specs.Programs.{HasLines, HasTree, IsProgram, IsNoProgram}
 
 pub known_stay : (earlier later : List (List ℕ)) (known : KnownNames) → AreKnown earlier known → Extends later earlier → AreKnown later known
 known_stay earlier later known are ext =
@@ -101,36 +105,36 @@ same_lines bytes a b =
 abbrev pub has_lines : (bytes : List ℕ) (first second third names : List (List ℕ)) (known : KnownNames) (words : ContextualWords) (lines : List Line)
     → first ≡ [] → second ≡ with_known first → third ≡ with_words second → AreKnown second known → Extends third second → AreWords third words → Extends names third
     → LexedFrom third names 0 bytes lines → AreApart names → HasLines bytes
-has_lines bytes first second third names known words lines a b c are_known more are_words grown lexed apart = record {
+has_lines bytes first second third names known words lines a b c are_known extended are_words grown lexed apart = record {
   names = names;
   lines = lines;
   known = known;
   words = words;
   lexed = subst (λ ns. LexedFrom ns names 0 bytes lines) (c ∙ ap (λ ns. with_words ns) (b ∙ ap (λ ns. with_known ns) a)) lexed;
   apart = apart;
-  are_known = known_stay third names known (known_stay second third known are_known more) grown;
+  are_known = known_stay third names known (known_stay second third known are_known extended) grown;
   are_words = words_stay third names words are_words grown;
 }
 
--- lines that break no rule on lines and blocks have their rows
-abbrev pub has_rows : (bytes : List ℕ) (read : HasLines bytes) (lines : List Line) (rows : List Row) → lines ≡ read.lines → AreRowsOf read.words [] lines rows
-    → ((line rule : ℕ) → BreaksLines read.words lines line rule → ⊥) → HasRows bytes
-has_rows bytes read lines rows e are sound = record {
+-- lines that break no rule on lines and blocks have their tree
+abbrev pub has_tree : (bytes : List ℕ) (read : HasLines bytes) (lines : List Line) (tree : SourceFile) → lines ≡ read.lines → IsTreeOf read.words 0 lines tree
+    → ((line rule : ℕ) → BreaksLines read.words lines line rule → ⊥) → HasTree bytes
+has_tree bytes read lines tree e is sound = record {
   read = read;
-  rows = rows;
-  are_rows = subst (λ (ls : List Line). AreRowsOf read.words [] ls rows) e are;
+  tree = tree;
+  is_tree = subst (λ (ls : List Line). IsTreeOf read.words 0 ls tree) e is;
   sound = subst (λ (ls : List Line). (line rule : ℕ) → BreaksLines read.words ls line rule → ⊥) e sound;
 }
 
--- where the rows of these lines are all the rows of theirs, and of no program, the bytes are none
-pub no_other : (bytes : List ℕ) (read : HasLines bytes) (rows : List Row) → ((others : List Row) → AreRowsOf read.words [] read.lines others → others ≡ rows)
-    → ((t : Tree) → AreProgram read.known rows t → ⊥) → IsNoProgram bytes
-no_other bytes read rows alone none = λ t p.
+-- where the tree of these lines is the only one of theirs, and of no program, the bytes are none
+pub no_other : (bytes : List ℕ) (read : HasLines bytes) (tree : SourceFile) → ((other : SourceFile) → IsTreeOf read.words 0 read.lines other → other ≡ tree)
+    → ((t : Tree) → IsProgramOf read.known tree t → ⊥) → IsNoProgram bytes
+no_other bytes read tree alone none = λ t p.
     let of = p.parsed in
     let same = same_lines bytes of.read read in
-    let here : AreRowsOf of.read.words [] read.lines of.rows = subst (λ (ls : List Line). AreRowsOf of.read.words [] ls of.rows) same.0 of.are_rows in
-    let they : of.rows ≡ rows = alone of.rows (subst (λ (w : ContextualWords). AreRowsOf w [] read.lines of.rows) same.2 here) in
-    none t (subst (λ (rs : List Row). AreProgram read.known rs t) they (subst (λ (k : KnownNames). AreProgram k of.rows t) same.1 p.program))
+    let here : IsTreeOf of.read.words 0 read.lines of.tree = subst (λ (ls : List Line). IsTreeOf of.read.words 0 ls of.tree) same.0 of.is_tree in
+    let it : of.tree ≡ tree = alone of.tree (subst (λ (w : ContextualWords). IsTreeOf w 0 read.lines of.tree) same.2 here) in
+    none t (subst (λ (f : SourceFile). IsProgramOf read.known f t) it (subst (λ (k : KnownNames). IsProgramOf k of.tree t) same.1 p.program))
 
 -- THE WIDTH OF A PROGRAM
 
@@ -159,14 +163,28 @@ rows_wide words before (l ∷ lines) rows rest r are e = by_tokens l lines l.tok
     let all : are.1 ≡ r ∷ rest = ap (λ rs. rs ++ are.1) (sym none) ∙ sym are.2 ∙ e in
     rows_wide words (items_behind before are.0) lines are.1 rest r are.4 all)
 
--- where there is an item there is a row
-first_row : (rows : List Row) (xs rest : List Item) (x : Item) → AreItems rows xs → xs ≡ x ∷ rest → (r : Row) × (rs : List Row) × (rows ≡ r ∷ rs)
-first_row (r ∷ rs) xs rest x are e = (r, rs, refl)
-first_row [] [] rest x are e = absurd cc
-first_row [] (y ∷ ys) rest x are e = absurd are
+-- rows of which there is one at least
+abbrev HasFirst : List Row → Type 0
+HasFirst rows = (r : Row) × (rest : List Row) × (rows ≡ r ∷ rest)
+
+more_behind : (rows others : List Row) → HasFirst rows → HasFirst (rows ++ others)
+more_behind rows others has = (has.0, has.1 ++ others, ap (λ rs. rs ++ others) has.2)
+
+more_before : (others rows : List Row) → HasFirst rows → HasFirst (others ++ rows)
+more_before [] rows has = has
+more_before (x ∷ xs) rows has = (x, xs ++ rows, refl)
+
+imports_row : (rows : List Row) (is : List ImportsStatement) (i : ImportsStatement) → AreImports rows is → is ≡ i ∷ [] → HasFirst rows
+imports_row rows is i nothing e = absurd cc
+imports_row rows is i (more {line = line} {ns = ns} {others = others} a) e = (whole line (item.Imports ns), others, refl)
+
+-- a file that imports has a row
+tree_row : (n : ℕ) (rows : List Row) (f : SourceFile) (i : ImportsStatement) → IsTree n rows f → f.imports ≡ i ∷ [] → HasFirst rows
+tree_row n rows f i (file {options = options} {imports = imports} {types = types} {is = is} a b c) e = more_before options (imports ++ types) (more_behind imports types (imports_row imports is i b e))
 
 -- the lines of a program have a line of one token at least
 pub is_wide : (bytes : List ℕ) (t : Tree) (p : IsProgram bytes t) → 1 ≤ widest p.parsed.read.lines
 is_wide bytes t p =
-    let first = first_row p.parsed.rows p.program.0 _ _ p.program.1 p.program.2.items_are in
-    rows_wide p.parsed.read.words [] p.parsed.read.lines p.parsed.rows first.1 first.0 p.parsed.are_rows first.2
+    let is = p.parsed.is_tree in
+    let first = tree_row 0 is.rows p.parsed.tree p.program.is_file.imports is.is_tree p.program.is_file.one_imports in
+    rows_wide p.parsed.read.words [] p.parsed.read.lines is.rows first.1 first.0 is.are_rows first.2

@@ -1,7 +1,6 @@
 pub mod Uncaught
 pub mod Kept
 pub mod Named
-pub mod Rows
 pub mod Compiled
 pub mod Calls
 pub mod Refusals

@@ -6,21 +6,22 @@ use Rattle.std.proofs.lemmas.List.Elements.{All-nil, All-cons}
 use Rattle.std.proofs.lemmas.Bool.Decides.{nat_tests}
 use Rattle.vb_text.specs.Names.{AreApart}
 use Rattle.vb_syntax.specs.declared.tokens.Line.{Line}
+use Rattle.vb_syntax.specs.declared.declaration.SourceFile.{SourceFile}
 use Rattle.vb_syntax.specs.declared.item.Row.{Row}
 use Rattle.vb_syntax.specs.declared.words.ContextualWords.{ContextualWords}
 use Rattle.vb_syntax.specs.ContextualWords.{AreWords, OptionsApart}
 use Rattle.vb_lexer.specs.Lines.{Item, AreLines, SomeLineBreaks, line_number, token_count, groups_of}
 use Rattle.vb_lexer.proofs.Groups.{tokens_counted}
 use Rattle.vb_lexer.proofs.Unique.{never_both, refusal_unique}
-use Rattle.vb_ends.specs.Enders.{IsLeast}
 use Rattle.vb_parse_expr.specs.TypeReading.{most_tokens}
 use Rattle.vb_rows.specs.Files.{AreRowsOf}
+use Rattle.vb_blocks.specs.Trees.{IsTree}
 use Rattle.vb_parse.specs.Least.{IsLeastBroken}
-use Rattle.vb_parse.specs.Rules.{BreaksLines}
-use Rattle.vb_parse.specs.Where.{HasRow}
+use Rattle.vb_parse.specs.Rules.{BreaksLines, IsTreeOf}
 use Rattle.vb_bind.specs.declared.names.KnownNames.{KnownNames}
+use Rattle.vb_bind.specs.Grammar.{HasUnbuiltForm, IsLeast}
 use Rattle.vb_bind.proofs.Trees.{by_test}
-use Rattle.vb_top.specs.Programs.{HasLines, HasRows, IsUnbuilt, IsFirstUnbuilt, LeastBroken}
+use Rattle.vb_top.specs.Programs.{HasLines, HasTree, IsFirstUnbuilt, LeastBroken}
 use Rattle.vb_top.proofs.Compiled.{same_lines}
 
 -- ONE LEAST
@@ -68,25 +69,28 @@ lines_short bytes read =
 
 module _ (words_apart : (table : List (List ℕ)) (words : ContextualWords) → AreApart table → AreWords table words → OptionsApart words)
     (one_list : (words : ContextualWords) (lines : List Line) (rows other : List Row) → OptionsApart words → All IsShort lines → AreRowsOf words [] lines rows → AreRowsOf words [] lines other → rows ≡ other)
+    (one_tree : (n : ℕ) (rows : List Row) (t u : SourceFile) → IsTree n rows t → IsTree n rows u → t ≡ u)
     (bytes : List ℕ) where
-  same_rows : (a b : HasRows bytes) → a.rows ≡ b.rows
-  same_rows a b =
+  same_trees : (a b : HasTree bytes) → a.tree ≡ b.tree
+  same_trees a b =
       let same = same_lines bytes a.read b.read in
-      let here : AreRowsOf a.read.words [] b.read.lines a.rows = subst (λ (ls : List Line). AreRowsOf a.read.words [] ls a.rows) same.0 a.are_rows in
-      let there : AreRowsOf b.read.words [] b.read.lines a.rows = subst (λ (w : ContextualWords). AreRowsOf w [] b.read.lines a.rows) same.2 here in
-      one_list b.read.words b.read.lines a.rows b.rows (words_apart b.read.names b.read.words b.read.apart b.read.are_words) (lines_short bytes b.read) there b.are_rows
+      let here : IsTreeOf a.read.words 0 b.read.lines a.tree = subst (λ (ls : List Line). IsTreeOf a.read.words 0 ls a.tree) same.0 a.is_tree in
+      let there : IsTreeOf b.read.words 0 b.read.lines a.tree = subst (λ (w : ContextualWords). IsTreeOf w 0 b.read.lines a.tree) same.2 here in
+      let apart = words_apart b.read.names b.read.words b.read.apart b.read.are_words in
+      let rows : there.rows ≡ b.is_tree.rows = one_list b.read.words b.read.lines there.rows b.is_tree.rows apart (lines_short bytes b.read) there.are_rows b.is_tree.are_rows in
+      one_tree 0 b.is_tree.rows a.tree b.tree (subst (λ (rs : List Row). IsTree 0 rs a.tree) rows there.is_tree) b.is_tree.is_tree
 
   same_broken : (a b : HasLines bytes) (line rule : ℕ) → IsLeastBroken (BreaksLines a.words a.lines) line rule → IsLeastBroken (BreaksLines b.words b.lines) line rule
   same_broken a b line rule h =
       let same = same_lines bytes a b in
       subst (λ (w : ContextualWords). IsLeastBroken (BreaksLines w b.lines) line rule) same.2 (subst (λ (ls : List Line). IsLeastBroken (BreaksLines a.words ls) line rule) same.0 h)
 
-  same_first : (a b : HasRows bytes) (line other : ℕ) → IsFirstUnbuilt a.read.known a.rows line → IsFirstUnbuilt b.read.known b.rows other → line ≡ other
+  same_first : (a b : HasTree bytes) (line other : ℕ) → IsFirstUnbuilt a.read.known a.tree line → IsFirstUnbuilt b.read.known b.tree other → line ≡ other
   same_first a b line other h k =
       let same = same_lines bytes a.read b.read in
-      let here : IsLeast (HasRow (IsUnbuilt a.read.known) b.rows) h.0 = subst (λ (rs : List Row). IsLeast (HasRow (IsUnbuilt a.read.known) rs) h.0) (same_rows a b) h.1 in
-      let there : IsLeast (HasRow (IsUnbuilt b.read.known) b.rows) h.0 = subst (λ (known : KnownNames). IsLeast (HasRow (IsUnbuilt known) b.rows) h.0) same.1 here in
-      let least : h.0 ≡ k.0 = one_least (HasRow (IsUnbuilt b.read.known) b.rows) h.0 k.0 there k.1 in
+      let here : IsLeast (HasUnbuiltForm a.read.known b.tree) h.0 = subst (λ (f : SourceFile). IsLeast (HasUnbuiltForm a.read.known f) h.0) (same_trees a b) h.1 in
+      let there : IsLeast (HasUnbuiltForm b.read.known b.tree) h.0 = subst (λ (known : KnownNames). IsLeast (HasUnbuiltForm known b.tree) h.0) same.1 here in
+      let least : h.0 ≡ k.0 = one_least (HasUnbuiltForm b.read.known b.tree) h.0 k.0 there k.1 in
       h.2 ∙ ap (λ (o : Option ℕ). unwrap_or o 1) least ∙ sym k.2
 
   pub one : (line rule other_line other_rule : ℕ) → LeastBroken bytes line rule → LeastBroken bytes other_line other_rule → (line ≡ other_line) × (rule ≡ other_rule)

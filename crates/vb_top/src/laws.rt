@@ -4,6 +4,7 @@ ghost use Rattle.vb_top.specs.Programs.{LeastBroken};
 
 use vb_rows::one_list_of_rows;
 use vb_syntax::words_apart;
+use vb_tree::one_tree;
 
 /// A law for callers' proofs: the least rule that bytes break is one, in one line. It does nothing.
 pub fn one_refusal()
@@ -11,4 +12,5 @@ pub fn one_refusal()
 {
     words_apart();
     one_list_of_rows();
+    one_tree();
 }

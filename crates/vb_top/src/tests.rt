@@ -50,7 +50,7 @@ fn call(
 const RUN: &[&str] = &["run", "main.vb"];
 
 // Bodies of Main: what is written, what is told, the status.
-const BODIES: [(&str, &str, &str, u8); 22] = [
+const BODIES: [(&str, &str, &str, u8); 25] = [
     (
         "Dim i As Integer = 0;While i < 3;i = i + 1;Console.WriteLine(i * i);End While",
         "1\n4\n9\n",
@@ -161,6 +161,24 @@ const BODIES: [(&str, &str, &str, u8); 22] = [
         1,
     ),
     (
+        "If 1 = 1 Then;Else;Else;End If",
+        "",
+        "main.vb(6): error V034: the line can't stand here\n",
+        1,
+    ),
+    (
+        "Class X;End Class",
+        "",
+        "main.vb(4): error V034: the line can't stand here\n",
+        1,
+    ),
+    (
+        "Do While 1 = 1;Loop",
+        "",
+        "main.vb(4): error V999: the form isn't built yet\n",
+        1,
+    ),
+    (
         "If 1 = 1 Then;x = = 1",
         "",
         "main.vb(4): error V031: a block has no end, or an end has no block\n",
@@ -193,7 +211,7 @@ fn bodies_run(rt: HostRuntime) -> Result<(), Fail> {
 }
 
 // Files that break a rule or have forms that aren't built, and what is told.
-const BROKEN: [(&[u8], &str); 12] = [
+const BROKEN: [(&[u8], &str); 16] = [
     (
         b"\xffImports System",
         "main.vb(1): error V001: the file isn't UTF-8\n",
@@ -213,7 +231,23 @@ const BROKEN: [(&[u8], &str); 12] = [
     (b"", "main.vb(1): error V999: the form isn't built yet\n"),
     (
         b"\nImports System\nModule M\nClass C\nEnd Class\nEnd Module",
-        "main.vb(4): error V999: the form isn't built yet\n",
+        "main.vb(4): error V034: the line can't stand here\n",
+    ),
+    (
+        b"Imports System\nClass C\nEnd Class",
+        "main.vb(2): error V999: the form isn't built yet\n",
+    ),
+    (
+        b"Imports System\nModule M\nx = 1\nEnd Module",
+        "main.vb(3): error V034: the line can't stand here\n",
+    ),
+    (
+        b"Module M\nEnd Module\nImports System",
+        "main.vb(3): error V034: the line can't stand here\n",
+    ),
+    (
+        b"Imports System\nOption Strict Off",
+        "main.vb(2): error V034: the line can't stand here\n",
     ),
     (
         b"\nImports System\nModule M\nSub Main()",

@@ -3,14 +3,14 @@ use Rattle.std.specs.Prelude.{Err}
 use Rattle.std.proofs.lemmas.Result.{IfOk-weaker}
 use Rattle.vb_diag.specs.declared.refusal.Refusal.{Refusal}
 use Rattle.vb_syntax.specs.declared.tokens.Line.{Line}
-use Rattle.vb_syntax.specs.declared.item.Row.{Row}
-use Rattle.vb_rows.specs.Files.{AreRowsOf}
+use Rattle.vb_syntax.specs.declared.declaration.SourceFile.{SourceFile}
 use Rattle.vb_parse.specs.Least.{IsLeastBroken}
-use Rattle.vb_parse.specs.Rules.{BreaksLines}
+use Rattle.vb_parse.specs.Rules.{BreaksLines, IsTreeOf}
 use Rattle.vb_parse_expr.specs.declared.error.ParseErr.{ParseErr}
 use Rattle.vb_bound.specs.Tree.{Tree, IsOutlineOf}
-use Rattle.vb_top.specs.Programs.{HasLines, HasRows, AreProgram, IsProgram, LeastBroken}
-use Rattle.vb_top.proofs.Compiled.{words_stay, has_lines, has_rows, no_other}
+use Rattle.vb_bind.specs.Grammar.{IsProgramOf}
+use Rattle.vb_top.specs.Programs.{HasLines, HasTree, IsProgram, LeastBroken}
+use Rattle.vb_top.proofs.Compiled.{words_stay, has_lines, has_tree, no_other}
 use Rattle.vb_top.proofs.compiling.compile.Goals as goal
 
 pub parse-requires : goal.parse-requires
@@ -23,8 +23,8 @@ returns-in-Ok-parse-clause-read c =
     let bytes = c.args.bytes.now in
     let read : HasLines bytes = has_lines bytes c.in_ok-names.names c.new-2.new.names c.new-3.new.names c.lex.new.names c.in_ok-known.known c.in_ok-words.words c.in-Ok.lines c.in_ok-names.ensures c.in_ok-known.ensures.grown c.in_ok-words.ensures.grown
     c.in_ok-known.ensures.known c.new-3.ensures.extends c.in_ok-words.ensures.words c.lex.ensures.names c.in-Ok.ensures.lexed c.are_apart.ensures in
-    let parsed : HasRows bytes = has_rows bytes read c.as_slice.result.now c.in-Ok-parse.rows c.as_slice.ensures c.in-Ok-parse.ensures.read c.in-Ok-parse.ensures.sound in
-    IfOk-weaker c.program_of.result (λ p. (t : Tree) × AreProgram c.in_ok-known.known c.in-Ok-parse.rows t × IsOutlineOf p t) (λ p. (t : Tree) × IsProgram bytes t × IsOutlineOf p t)
+    let parsed : HasTree bytes = has_tree bytes read c.as_slice.result.now c.in-Ok-parse.tree c.as_slice.ensures c.in-Ok-parse.ensures.tree c.in-Ok-parse.ensures.sound in
+    IfOk-weaker c.program_of.result (λ p. (t : Tree) × IsProgramOf c.in_ok-known.known c.in-Ok-parse.tree t × IsOutlineOf p t) (λ p. (t : Tree) × IsProgram bytes t × IsOutlineOf p t)
     (λ p h. (h.0, record { parsed = parsed; program = h.1 }, h.2)) c.program_of.ensures.read
 
 pub returns-in-Ok-parse-clause-refused : goal.returns-in-Ok-parse-clause-refused
@@ -32,11 +32,11 @@ returns-in-Ok-parse-clause-refused c = λ refusal e.
     let bytes = c.args.bytes.now in
     let read : HasLines bytes = has_lines bytes c.in_ok-names.names c.new-2.new.names c.new-3.new.names c.lex.new.names c.in_ok-known.known c.in_ok-words.words c.in-Ok.lines c.in_ok-names.ensures c.in_ok-known.ensures.grown c.in_ok-words.ensures.grown
     c.in_ok-known.ensures.known c.new-3.ensures.extends c.in_ok-words.ensures.words c.lex.ensures.names c.in-Ok.ensures.lexed c.are_apart.ensures in
-    let rows = c.in-Ok-parse.rows in
-    let parsed : HasRows bytes = has_rows bytes read c.as_slice.result.now rows c.as_slice.ensures c.in-Ok-parse.ensures.read c.in-Ok-parse.ensures.sound in
-    let alone : (others : List Row) → AreRowsOf read.words [] read.lines others → others ≡ rows = λ others are. c.in-Ok-parse.ensures.alone others (subst (λ (ls : List Line). AreRowsOf read.words [] ls others) (sym c.as_slice.ensures) are) in
+    let tree = c.in-Ok-parse.tree in
+    let parsed : HasTree bytes = has_tree bytes read c.as_slice.result.now tree c.as_slice.ensures c.in-Ok-parse.ensures.tree c.in-Ok-parse.ensures.sound in
+    let alone : (other : SourceFile) → IsTreeOf read.words 0 read.lines other → other ≡ tree = λ other is. c.in-Ok-parse.ensures.alone other (subst (λ (ls : List Line). IsTreeOf read.words 0 ls other) (sym c.as_slice.ensures) is) in
     let told = c.program_of.ensures.refused refusal e in
-    inr (inr (parsed, told.0, no_other bytes read rows alone told.1, told.2))
+    inr (inr (parsed, told.0, no_other bytes read tree alone told.1, told.2))
 
 pub returns-in-Err-Refused-parse-clause-refused : goal.returns-in-Err-Refused-parse-clause-refused
 returns-in-Err-Refused-parse-clause-refused c = λ refusal e.
