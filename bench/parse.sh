@@ -6,9 +6,9 @@
 set -u
 . "$(dirname "${BASH_SOURCE[0]}")/program.sh" || exit 1
 
-copy_crates vb_text vb_diag vb_syntax vb_lexer vb_ends vb_parse_expr vb_parse_decl vb_parse_stmt vb_rows vb_parse
+copy_crates vb_text vb_diag vb_syntax vb_lexer vb_ends vb_blocks vb_members vb_tree vb_parse_expr vb_parse_decl vb_parse_stmt vb_rows vb_parse
 build parse_bench 'anyhow vb_text vb_syntax vb_lexer vb_parse' <<'RT'
-//! Parses a file several times, and prints the least time in microseconds and how many rows the file has.
+//! Parses a file several times, and prints the least time in microseconds and how many options, imports and types the file has.
 #![tactic(auto)]
 
 use anyhow::{Result, ensure};
@@ -39,7 +39,7 @@ fn main(rt: HostRuntime) -> Result<()> {
             Err(error) => anyhow::bail!("{error:?}"),
         };
         match parse(rt.alloc(), &words, 0, lines.as_slice()) {
-            Ok(rows) => count = rows.len(),
+            Ok(tree) => count = tree.options.len() + tree.imports.len() + tree.types.len(),
             Err(error) => ensure!(false, "{error:?}"),
         }
         least = least.min(start.elapsed(&rt)?.as_micros());
@@ -52,12 +52,12 @@ RT
 times=()
 for megabytes in 1 4; do
     source_of module $((megabytes * 1048576)) source.vb || exit 1
-    read -r micros rows < <(python3 -c '
+    read -r micros parts < <(python3 -c '
 import resource, subprocess, sys
 subprocess.run(sys.argv[1:], check=True)
 print(resource.getrusage(resource.RUSAGE_CHILDREN).ru_maxrss, file=open("peak", "w"))
 ' "$program" source.vb)
     times+=("$micros")
-    echo "$megabytes MB, $rows rows: $micros us, $(python3 -c "print(round($megabytes * 1048576 / $micros, 1))") MB a second, peak $(python3 -c "print(round($(cat peak) / 1024 / $megabytes, 1))") times the source"
+    echo "$megabytes MB, $parts types: $micros us, $(python3 -c "print(round($megabytes * 1048576 / $micros, 1))") MB a second, peak $(python3 -c "print(round($(cat peak) / 1024 / $megabytes, 1))") times the source"
 done
 echo "4 MB take $(python3 -c "print(round(${times[1]} / ${times[0]}, 2))") times as long as 1 MB"
