@@ -3,7 +3,6 @@ use Rattle.std.proofs.Common.{◌≡◌, ℕ, Bool, true, false, not, ◌&&◌, 
 use Rattle.vb_text.specs.declared.names.Name.{Name}
 use Rattle.vb_syntax.specs.declared.types.TypeName.{TypeName}
 use Rattle.vb_syntax.specs.declared.expression.Expr.{Expr}
-use Rattle.vb_syntax.specs.declared.statement.StatementForm.{StatementForm}
 use Rattle.vb_syntax.specs.declared.statement.StatementForm.TheVariants as form
 use Rattle.vb_syntax.specs.declared.statement.Statement.{Statement}
 use Rattle.vb_syntax.specs.declared.statement.BlockClause.{BlockClause}
@@ -43,16 +42,14 @@ use Rattle.vb_blocks.specs.declared.scope.SelectParts.{SelectParts}
 use Rattle.vb_blocks.specs.declared.scope.TryParts.{TryParts}
 use Rattle.vb_blocks.specs.declared.scope.AccessorHeader.{AccessorHeader}
 use Rattle.vb_blocks.specs.declared.scope.AccessorHeader.TheVariants as accessor_header
-use Rattle.vb_blocks.specs.declared.frame.Frame.{Frame}
 use Rattle.vb_blocks.specs.declared.frame.Frame.TheVariants as frame
 use Rattle.vb_blocks.specs.declared.frame.ClassParts.{ClassParts}
 use Rattle.vb_blocks.specs.declared.frame.InterfaceParts.{InterfaceParts}
-use Rattle.vb_blocks.specs.declared.frame.TypeHeader.{TypeHeader}
 use Rattle.vb_blocks.specs.declared.frame.TypeHeader.TheVariants as type_header
 use Rattle.vb_blocks.specs.declared.frame.Whole.TheVariants as is
 use Rattle.vb_blocks.specs.declared.frame.Turn.{Turn}
 use Rattle.vb_blocks.specs.declared.frame.Turn.TheVariants as turn
-use Rattle.vb_blocks.specs.Trees.{statement, member_of, enclosed, procedure, accessor_word}
+use Rattle.vb_blocks.specs.Trees.{statement, enclosed, procedure, accessor_word}
 use Rattle.vb_blocks.specs.Words.{is_word}
 use Rattle.vb_blocks.specs.Steps.{Gives, word_of, if_end, select_end, try_end, loop_test, enclosed_whole, procedure_whole, event_accessor_end, accessor_turn, accessor_end, is_next, next_of, is_bare, procedure_end, is_empty, has_no_base, class_based, class_based_if, before_all, class_of, class_implements, members_turn, with_list, interface_of, interface_inherits, interface_turn, automatic_form, has_accessors}
 

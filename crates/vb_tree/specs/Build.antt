@@ -1,5 +1,5 @@
 -- The answer of the code, behind the last row or where it stopped.
-use Rattle.std.specs.Prelude.{ℕ, Bool, true, false, Result, Ok, Err}
+use Rattle.std.specs.Prelude.{ℕ, Bool, true, Result, Ok, Err}
 use Rattle.vb_syntax.specs.declared.declaration.SourceFile.{SourceFile}
 use Rattle.vb_blocks.specs.declared.fault.Fault.{Fault}
 use Rattle.vb_blocks.specs.declared.fault.Fault.TheVariants as fault

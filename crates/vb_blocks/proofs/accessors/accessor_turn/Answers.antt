@@ -1,4 +1,4 @@
-use Rattle.std.proofs.Common.{◌≡◌, Option, subst}
+use Rattle.std.proofs.Common.{Option, subst}
 use Rattle.vb_syntax.specs.declared.item.BlockWord.{BlockWord}
 use Rattle.vb_blocks.specs.Steps.{Gives, word_of, accessor_end, accessor_turn}
 use Rattle.vb_blocks.proofs.Parts.{turn_as, accessor_ends}

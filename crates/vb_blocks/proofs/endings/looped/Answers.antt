@@ -1,4 +1,4 @@
-use Rattle.std.proofs.Common.{◌≡◌, Option, sym, subst}
+use Rattle.std.proofs.Common.{Option, sym, subst}
 use Rattle.vb_syntax.specs.declared.item.Item.TheVariants as item
 use Rattle.vb_blocks.specs.declared.fault.Fault.{Fault}
 use Rattle.vb_blocks.specs.declared.frame.Turn.{Turn}

@@ -1,11 +1,8 @@
-use Rattle.std.proofs.Common.{◌≡◌, ◌⊎◌, Err, Option, Some, None, List, [], ◌∷◌, ℕ}
-use Rattle.std.specs.Prelude.{IfOk}
-use Rattle.vb_parse_expr.specs.declared.error.ParseErr.{ParseErr}
+use Rattle.std.proofs.Common.{◌≡◌, Err}
 use Rattle.vb_parse_expr.specs.declared.error.ParseErr.TheVariants as failure
 use Rattle.vb_tree.specs.declared.tree.BuildErr.TheVariants as build
-use Rattle.vb_parse.specs.Broken.{IsLeastOf, BreaksJudged}
-use Rattle.vb_parse.specs.Rules.{BreaksGrammarRule, BreaksLines, IsTreeOf}
-use Rattle.vb_parse.proofs.Orders.{Either}
+use Rattle.vb_parse.specs.Broken.{IsLeastOf}
+use Rattle.vb_parse.specs.Rules.{BreaksLines}
 use Rattle.vb_parse.proofs.Told.{least_judged, least_of_lines, only_memory, is_tree, is_alone, accepted, told_first}
 use Rattle.vb_parse.proofs.files.parse.Goals as goal
 

@@ -1,4 +1,4 @@
-use Rattle.vb_parse.proofs.UpTo.{all_rows, one_less, same_front}
+use Rattle.vb_parse.proofs.UpTo.{all_rows}
 use Rattle.vb_parse.proofs.front.up_to.Goals as goal
 
 pub loop-row-init : goal.loop-row-init

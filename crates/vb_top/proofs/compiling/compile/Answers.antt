@@ -1,4 +1,4 @@
-use Rattle.std.proofs.Common.{◌≡◌, List, [], ap, sym, subst, inl, inr}
+use Rattle.std.proofs.Common.{◌≡◌, List, ap, sym, subst, inl, inr}
 use Rattle.std.specs.Prelude.{Err}
 use Rattle.std.proofs.lemmas.Result.{IfOk-weaker}
 use Rattle.vb_diag.specs.declared.refusal.Refusal.{Refusal}

@@ -1,4 +1,4 @@
-use Rattle.std.proofs.Common.{◌≡◌, List, Option, sym, ap, ◌∙◌}
+use Rattle.std.proofs.Common.{List, Option, sym, ap, ◌∙◌}
 use Rattle.vb_syntax.specs.declared.declaration.Member.{Member}
 use Rattle.vb_blocks.specs.declared.frame.PropertyParts.{PropertyParts}
 use Rattle.vb_tree.proofs.Frames.{last_taken}

@@ -1,4 +1,4 @@
-use Rattle.std.proofs.Common.{◌≡◌, ℕ, List, reverse, subst}
+use Rattle.std.proofs.Common.{ℕ, List, reverse, subst}
 use Rattle.vb_syntax.specs.declared.item.Row.{Row}
 use Rattle.vb_blocks.specs.Trees.{IsMisplaced}
 use Rattle.vb_blocks.specs.Steps.{step}
