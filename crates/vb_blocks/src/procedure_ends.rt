@@ -1,5 +1,5 @@
 // The end of a procedure or of a constructor.
-ghost use Rattle.std.specs.Prelude.{◌≡◌, ◌&&◌, not};
+ghost use Rattle.std.specs.Prelude.{◌&&◌, Some, None, if◌then◌else◌, not};
 ghost use Rattle.vb_syntax.specs.Items.{must_override as has_no_block};
 ghost use Rattle.vb_blocks.specs.Steps.{Gives};
 ghost use Rattle.vb_blocks.specs.Steps as spec;
@@ -48,38 +48,20 @@ fn procedure_end(
 {
     match declaration {
         DeclarationLine::Sub(modifiers, signature, implements) => {
-            let may_end = ends(BlockWord::Sub, word, &modifiers);
             let form = MemberForm::Sub {
                 signature,
                 implements,
                 body: Some(body),
             };
-            closes_member(
-                alloc,
-                may_end,
-                Member {
-                    line,
-                    modifiers,
-                    form,
-                },
-            )
+            ended(alloc, BlockWord::Sub, word, line, modifiers, form)
         }
         DeclarationLine::Constructor(modifiers, parameters, implements) => {
-            let may_end = ends(BlockWord::Sub, word, &modifiers);
             let form = MemberForm::Constructor {
                 parameters,
                 implements,
                 body: Some(body),
             };
-            closes_member(
-                alloc,
-                may_end,
-                Member {
-                    line,
-                    modifiers,
-                    form,
-                },
-            )
+            ended(alloc, BlockWord::Sub, word, line, modifiers, form)
         }
         DeclarationLine::Function {
             modifiers,
@@ -88,7 +70,6 @@ fn procedure_end(
             result,
             implements,
         } => {
-            let may_end = ends(BlockWord::Function, word, &modifiers);
             let form = MemberForm::Function {
                 kind,
                 signature,
@@ -96,23 +77,32 @@ fn procedure_end(
                 implements,
                 body: Some(body),
             };
-            closes_member(
-                alloc,
-                may_end,
-                Member {
-                    line,
-                    modifiers,
-                    form,
-                },
-            )
+            ended(alloc, BlockWord::Function, word, line, modifiers, form)
         }
         other => Err(refuse_behind(body, Item::Declares(other))),
     }
 }
 
-// Whether the word ends a procedure with these modifiers.
-fn ends(wanted: BlockWord, word: Option<BlockWord>, modifiers: &Items<Modifier>) -> bool
-    ensures { result ≡ (words.is_word wanted word && not (has_no_block modifiers.now)) }
+// The member with its body, where the word ends it.
+fn ended(
+    alloc: Global,
+    wanted: BlockWord,
+    word: Option<BlockWord>,
+    line: u32,
+    modifiers: Items<Modifier>,
+    form: MemberForm,
+) -> Result<Turn, Fault>
+    ensures { Gives (λ t. t) result (if words.is_word wanted word && not (has_no_block modifiers)
+        then spec.procedure_whole line (Some (modifiers, form)) else None) }
 {
-    is_word(wanted, word) && !must_override(modifiers.as_slice())
+    let may_end = is_word(wanted, word) && !must_override(modifiers.as_slice());
+    closes_member(
+        alloc,
+        may_end,
+        Member {
+            line,
+            modifiers,
+            form,
+        },
+    )
 }

@@ -9,8 +9,8 @@ use vb_blocks::{
     ClassParts, Fault, FileParts, Frame, InterfaceParts, Turn, TypeHeader, given, refuse_in,
 };
 use vb_syntax::{
-    DeclarationLine, ImportsStatement, Item, OptionSetting, OptionStatement, TypeDeclaration,
-    TypeForm,
+    Access, ClassModifier, DeclarationLine, ImportsStatement, Item, OptionSetting, OptionStatement,
+    TypeDeclaration, TypeForm, TypeParameter,
 };
 use vb_text::Name;
 
@@ -97,15 +97,7 @@ fn file_declares(
             name,
             type_parameters,
         } => {
-            let class = ClassParts {
-                line,
-                access,
-                modifier,
-                name,
-                type_parameters,
-                base: None,
-                implements: Items::new(alloc),
-            };
+            let class = bare_class(alloc, line, access, modifier, name, type_parameters);
             opens_members(alloc, parts, TypeHeader::Class(class))
         }
         DeclarationLine::Interface {
@@ -113,14 +105,7 @@ fn file_declares(
             name,
             type_parameters,
         } => {
-            let interface = InterfaceParts {
-                line,
-                access,
-                name,
-                type_parameters,
-                inherits: Items::new(alloc),
-                members: Items::new(alloc),
-            };
+            let interface = bare_interface(alloc, line, access, name, type_parameters);
             opens_interface(alloc, parts, interface)
         }
         DeclarationLine::Delegate {
@@ -146,6 +131,48 @@ fn file_declares(
             Ok(Turn::Goes(with_type(alloc, parts, declaration)?))
         }
         other => Err(refuse_in(Frame::File(parts), Item::Declares(other))),
+    }
+}
+
+// A class of which nothing stands there yet but its header.
+fn bare_class(
+    alloc: Global,
+    line: u32,
+    access: Option<Access>,
+    modifier: Option<ClassModifier>,
+    name: Name,
+    type_parameters: Items<TypeParameter>,
+) -> ClassParts
+    ensures { result ≡ record { line = line; access = access; modifier = modifier; name = name; type_parameters = type_parameters; base = None; implements = [] } }
+{
+    ClassParts {
+        line,
+        access,
+        modifier,
+        name,
+        type_parameters,
+        base: None,
+        implements: Items::new(alloc),
+    }
+}
+
+// An interface of which nothing stands there yet but its header.
+fn bare_interface(
+    alloc: Global,
+    line: u32,
+    access: Option<Access>,
+    name: Name,
+    type_parameters: Items<TypeParameter>,
+) -> InterfaceParts
+    ensures { result ≡ record { line = line; access = access; name = name; type_parameters = type_parameters; inherits = []; members = [] } }
+{
+    InterfaceParts {
+        line,
+        access,
+        name,
+        type_parameters,
+        inherits: Items::new(alloc),
+        members: Items::new(alloc),
     }
 }
 
