@@ -9,17 +9,6 @@ use Rattle.vb_parse.specs.UpTo.{AreBehind, IsUpTo, IsFront, IsFrontBuilt}
 pub all_rows : (line : ℕ) (rows : List Row) → IsUpTo line rows rows
 all_rows line rows = record { rest = []; are = sym (append-nil rows); behind = tt }
 
--- one row less
-pub one_less : (line : ℕ) (rows old new : List Row) (r : Row) → IsUpTo line rows old → old ≡ new ++ r ∷ [] → line < r.line → IsUpTo line rows new
-one_less line rows old new r u e lt = record {
-  rest = r ∷ u.rest;
-  are = u.are ∙ ap (λ (xs : List Row). xs ++ u.rest) e ∙ append_assoc new (r ∷ []) u.rest;
-  behind = (lt, u.behind);
-}
-
-pub same_front : (line : ℕ) (rows old new : List Row) → IsUpTo line rows old → old ≡ new → IsUpTo line rows new
-same_front line rows old new u e = subst (λ (xs : List Row). IsUpTo line rows xs) e u
-
 -- a row in a list of two parts stands in the first with the rest behind it, or in the second
 data Part (a b : List Row) (before : List Row) (r : Row) : Type 0 where
   in_first : (more : List Row) → a ≡ before ++ r ∷ more → Part a b before r

@@ -1,14 +1,10 @@
 -- Where the rows of a file are misplaced: in one line at most, and in none where they lead to their end.
-use Rattle.std.proofs.Common.{◌≡◌, ℕ, List, [], ◌∷◌, ◌++◌, reverse, Option, Some, None, refl, ap, sym, ◌∙◌, append_assoc, subst}
-use Rattle.vb_syntax.specs.declared.declaration.SourceFile.{SourceFile}
+use Rattle.std.proofs.Common.{◌≡◌, ℕ, List, [], ◌∷◌, ◌++◌, Option, Some, None, refl, ap, sym, ◌∙◌, append_assoc, subst}
 use Rattle.vb_syntax.specs.declared.item.Row.{Row}
-use Rattle.vb_ends.specs.declared.role.Sort.{Sort}
-use Rattle.vb_ends.specs.Roles.{marks_of, AreOpenBehind}
-use Rattle.vb_blocks.specs.Trees.{IsTree, CanGoOn, IsMisplaced}
-use Rattle.vb_blocks.specs.Steps.{State, run, run_on, start, finished}
+use Rattle.vb_blocks.specs.Trees.{CanGoOn, IsMisplaced}
+use Rattle.vb_blocks.specs.Steps.{State, run, run_on, start}
 use Rattle.vb_tree.proofs.GoingOn.{fewer}
-use Rattle.vb_tree.proofs.Placing.{run_then, begins, no_tree}
-use Rattle.vb_tree.proofs.Unended.{unended}
+use Rattle.vb_tree.proofs.Placing.{run_then, begins}
 
 -- rows that lead somewhere do so as far as any of them
 led : (more : List Row) (o : Option State) (st : State) → run_on (run more) o ≡ Some st → (q : State) × (o ≡ Some q)
@@ -60,8 +56,3 @@ same_line a r b s (last d) on off goes stops = absurd (not_before b s a d on sto
 pub one_misplaced : (rows : List Row) (line other : ℕ) → IsMisplaced rows line → IsMisplaced rows other → other ≡ line
 one_misplaced rows line other (a, r, c, is, on, off, at) (b, s, d, are, goes, stops, there) =
     there ∙ same_line a r b s (order a r c b s d (sym is ∙ are)) on off goes stops ∙ sym at
-
--- rows that lead to their end and are no tree
-pub unended_rows : (n : ℕ) (rows : List Row) (st : State) → run rows start [] ≡ Some st → finished n st.0 st.1 ≡ None
-    → ((t : SourceFile) → IsTree n rows t → ⊥) × ((line : ℕ) → IsMisplaced rows line → ⊥) × ((s : Sort) × (ss : List Sort) × AreOpenBehind (marks_of None (reverse rows)) (s ∷ ss))
-unended_rows n rows st e none = (no_tree n rows st e none, placed rows st e, unended rows st e n none)

@@ -1,5 +1,5 @@
 -- Where the rows of a file lead to its end and are no tree, a block is open behind them.
-use Rattle.std.proofs.Common.{◌≡◌, ℕ, true, List, [], ◌∷◌, reverse, Option, Some, None, refl, ap, sym, ◌∙◌, subst}
+use Rattle.std.proofs.Common.{◌≡◌, ℕ, true, List, [], ◌∷◌, reverse, Option, Some, None, refl, ap, ◌∙◌, subst}
 use Rattle.vb_syntax.specs.declared.item.Row.{Row}
 use Rattle.vb_ends.specs.declared.role.Sort.{Sort}
 use Rattle.vb_ends.specs.declared.role.Sort.TheVariants as sort
@@ -80,9 +80,3 @@ module _ (rows : List Row) (st : State) (so_far : run rows start [] ≡ Some st)
   -- where the frames aren't one whole file, a block is open
   pub unended : (n : ℕ) → finished n st.0 st.1 ≡ None → (s : Sort) × (ss : List Sort) × AreOpenBehind (marks_of None (reverse rows)) (s ∷ ss)
   unended n none = block_open (unfinished_block n st.0 st.1 rows (rows_hold rows st so_far) none)
-
-  -- where a frame stands in another, a block is open
-  pub unended_inside : (g : Frame) (gs : List Frame) → st.1 ≡ g ∷ gs → (s : Sort) × (ss : List Sort) × AreOpenBehind (marks_of None (reverse rows)) (s ∷ ss)
-  unended_inside g gs more =
-      let P : List Frame → Type 0 = λ fs. Holds st.0 fs rows in
-      block_open (subst (λ (fs : List Frame). HasBlock (st.0 ∷ fs)) (sym more) (has_block gs st.0 g rows (subst P more (rows_hold rows st so_far))))
