@@ -7,15 +7,19 @@ use std::alloc::{AllocError, Global};
 use std::test::Fail;
 use vb_io::{MemFolder, MemSink, MemSource};
 
+// The front of a file whose body is at line 4, as programs have it that are built.
 const FRONT: &[u8] = b"Imports System\nModule M\nSub Main()\n";
+
+// The usual front of a file, whose body is at line 5: its second line isn't built.
+const USUAL_FRONT: &[u8] = b"Imports System\nImports System.Threading\nModule M\nSub Main()\n";
 
 const BACK: &[u8] = b"\nEnd Sub\nEnd Module\n";
 
 type Seen = Finished<MemSource, MemSink, MemSink>;
 
 // The file of a body in which `;` stands for a line's end.
-fn file_of(alloc: Global, body: &str) -> Result<Vec<u8>, AllocError> {
-    let mut file = Vec::from_slice(alloc, FRONT)?;
+fn file_of(alloc: Global, front: &[u8], body: &str) -> Result<Vec<u8>, AllocError> {
+    let mut file = Vec::from_slice(alloc, front)?;
     for byte in body.bytes() {
         file.push(if byte == b';' { b'\n' } else { byte })?;
     }
@@ -201,7 +205,7 @@ const BODIES: [(&str, &str, &str, u8); 25] = [
 #[test]
 fn bodies_run(rt: HostRuntime) -> Result<(), Fail> {
     for (body, out, err, status) in BODIES {
-        let file = file_of(rt.alloc(), body)?;
+        let file = file_of(rt.alloc(), FRONT, body)?;
         let seen = call(rt.alloc(), RUN, file, &[], 64)?;
         assert_eq!(rt; seen.out.bytes(), out.as_bytes(), "{body}");
         assert_eq!(rt; seen.err.bytes(), err.as_bytes(), "{body}");
@@ -287,10 +291,46 @@ fn broken_rules_are_told(rt: HostRuntime) -> Result<(), Fail> {
     Ok(())
 }
 
-// A number in brackets inside a Sub of a module: so many of them, and what is told.
+// Bodies behind the usual front, and what is told.
+const USUAL_BODIES: [(&str, &str); 6] = [
+    (
+        "Dim d As Date",
+        "main.vb(5): error V032: the form is outside the profile\n",
+    ),
+    (
+        "Class X;End Class",
+        "main.vb(5): error V034: the line can't stand here\n",
+    ),
+    (
+        "If True Then",
+        "main.vb(5): error V031: a block has no end, or an end has no block\n",
+    ),
+    (
+        "Dim i As Integer = (1 +_;2)",
+        "main.vb(5): error V005: an underscore is no continuation and no part of a name\n",
+    ),
+    (
+        "If True Then Console.WriteLine(1) Else Console.WriteLine(2)",
+        "main.vb(2): error V999: the form isn't built yet\n",
+    ),
+    ("", "main.vb(2): error V999: the form isn't built yet\n"),
+];
+
+#[test]
+fn usual_bodies_are_told(rt: HostRuntime) -> Result<(), Fail> {
+    for (body, err) in USUAL_BODIES {
+        let file = file_of(rt.alloc(), USUAL_FRONT, body)?;
+        let seen = call(rt.alloc(), RUN, file, &[], 64)?;
+        assert_eq!(rt; seen.err.bytes(), err.as_bytes(), "{body}");
+        assert_eq!(rt; seen.status.code(), 1, "{body}");
+    }
+    Ok(())
+}
+
+// A number in brackets behind the usual front: so many of them, and what is told.
 const BRACKETS: [(u32, &str); 2] = [
-    (98, "main.vb(4): error V999: the form isn't built yet\n"),
-    (99, "main.vb(4): error V033: nesting is deeper than 100\n"),
+    (98, "main.vb(2): error V999: the form isn't built yet\n"),
+    (99, "main.vb(5): error V033: nesting is deeper than 100\n"),
 ];
 
 #[test]
@@ -304,7 +344,7 @@ fn deep_brackets_are_told(rt: HostRuntime) -> Result<(), Fail> {
         for _ in 0..count {
             body.push_str(")")?;
         }
-        let file = file_of(rt.alloc(), body.as_str())?;
+        let file = file_of(rt.alloc(), USUAL_FRONT, body.as_str())?;
         let seen = call(rt.alloc(), RUN, file, &[], 64)?;
         assert_eq!(rt; seen.err.bytes(), err.as_bytes());
         assert_eq!(rt; seen.status.code(), 1);
@@ -314,7 +354,7 @@ fn deep_brackets_are_told(rt: HostRuntime) -> Result<(), Fail> {
 
 #[test]
 fn endless_loop_comes_to_its_limit(rt: HostRuntime) -> Result<(), Fail> {
-    let file = file_of(rt.alloc(), "Dim i As Integer;While i < 1;End While")?;
+    let file = file_of(rt.alloc(), FRONT, "Dim i As Integer;While i < 1;End While")?;
     let seen = call(rt.alloc(), RUN, file, &[], 64)?;
     assert_eq!(rt; seen.status.code(), 6);
     assert_eq!(rt; seen.err.bytes(), b"turn limit reached\n".as_slice());
@@ -369,7 +409,7 @@ fn failing_output_keeps_a_front(rt: HostRuntime) -> Result<(), Fail> {
         "Dim i As Integer = 1;Console.WriteLine(i);i = i + 1;Console.WriteLine(i);i = i + 1;Console.WriteLine(i)";
     let whole = b"1\n2\n3\n";
     for k in 0..6usize {
-        let file = file_of(rt.alloc(), body)?;
+        let file = file_of(rt.alloc(), FRONT, body)?;
         let seen = call(rt.alloc(), RUN, file, &[k as u64], 1)?;
         assert_eq!(rt; seen.out.bytes(), &whole[..k]);
         assert_eq!(rt; seen.err.bytes(), b"write fault\n".as_slice());
@@ -393,7 +433,7 @@ fn long_and_deep_body_runs(rt: HostRuntime) -> Result<(), Fail> {
         body.push_str(";End While")?;
     }
     body.push_str(";Console.WriteLine(n)")?;
-    let file = file_of(rt.alloc(), body.as_str())?;
+    let file = file_of(rt.alloc(), FRONT, body.as_str())?;
     let seen = call(rt.alloc(), RUN, file, &[], 64)?;
     assert_eq!(rt; seen.out.bytes(), b"1000\n".as_slice());
     assert_eq!(rt; seen.status.code(), 0);
