@@ -1,11 +1,13 @@
 Imports System
 
-Module Squares
+Module Triangles
     Sub Main()
-        Dim i As Integer = 0
-        While i < 3
-            i = i + 1
-            Console.WriteLine(i * i)
+        Dim row As Integer = 0
+        Dim sum As Integer
+        While row < 4
+            row = row + 1
+            sum = sum + row
+            Console.WriteLine(sum)
         End While
     End Sub
 End Module

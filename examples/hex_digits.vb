@@ -1,0 +1,3 @@
+' A number whose digits aren't those of its base.
+
+x = &HG

@@ -1,0 +1,7 @@
+Option Strict Off
+Imports System
+
+Module Lenient
+    Sub Main()
+    End Sub
+End Module

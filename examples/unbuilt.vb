@@ -1,0 +1,4 @@
+Imports System
+
+Class Unbuilt
+End Class
