@@ -21,14 +21,6 @@ def stat_of(process):
     return name, int(rest[1]), int(rest[19]), (int(rest[11]) + int(rest[12])) / TICKS
 
 
-def descends(process, root):
-    while process > 1:
-        if process == root:
-            return True
-        process = stat_of(process)[1]
-    return False
-
-
 def memory_of(process):
     with open(f"/proc/{process}/status") as file:
         found = re.search(r"VmHWM:\s+(\d+)", file.read())
@@ -45,15 +37,28 @@ def kind_of(process):
     return crate, "tests" if "--test" in words else "proof"
 
 
+def check_of(process, root):
+    """The crate and the kind of the check below root that a process works for; none where it works for no check."""
+    found = None
+    while process > 1 and process != root:
+        name, parent, _, _ = stat_of(process)
+        if name == "rattle" and not found:
+            found = kind_of(process)
+        process = parent
+    return found if process == root else None
+
+
 def look(root, seen):
-    """Notes the processor time so far of each check below this process."""
+    """Notes the processor time so far of each process that works for a check below root."""
     for name in filter(str.isdigit, os.listdir("/proc")):
         try:
             process = int(name)
-            program, _, start, seconds = stat_of(process)
-            if program == "rattle" and descends(process, root):
-                known = seen.get((process, start)) or kind_of(process)
-                seen[process, start] = (*known[:2], seconds, memory_of(process))
+            _, _, start, seconds = stat_of(process)
+            key = process, start
+            # (a process that isn't yet the program that it will become works for none)
+            check = seen[key][:2] if key in seen else check_of(process, root)
+            if check:
+                seen[key] = (*check, seconds, memory_of(process))
         except (OSError, ValueError, IndexError):
             pass
 
