@@ -1,13 +1,15 @@
--- Each step of the code is steps of the tree, or nothing; and few come before the next beginning.
-use Rattle.std.proofs.Common.{◌≡◌, ℕ, zero, suc, ◌+◌, ◌*◌, ◌≤◌, Bool, true, false, List, [], ◌∷◌, ◌++◌, map, length, ℤ, pos, Option, Some, None, refl, sym, ap, ◌∙◌, subst, arith, length-append}
+-- Each step of the code is steps of the tree, or nothing.
+use Rattle.std.proofs.Common.{◌≡◌, ℕ, zero, suc, ◌+◌, ◌≤◌, Bool, true, false, List, [], ◌∷◌, ◌++◌, map, length, ℤ, pos, Option, Some, None, refl, sym, ap, ◌∙◌, subst, arith, length-append}
 use Rattle.std.specs.Prelude.{slice_get, slice_set, slice_index_or, nat_le, if◌then◌else◌}
 use Rattle.std.specs.Fmt.{signed_decimal}
 use Rattle.vb_num.specs.declared.kinds.Kind.TheVariants.{Integer}
 use Rattle.vb_text.specs.Units.{most_units}
-use Rattle.vb_threads.specs.Machine.{Over, Threw, Silent, Asks, Rests, state_of, begins_of, quiet, begun}
-use Rattle.vb_threads.specs.Same.{AsksAlike, RestsAlike, Equal, EqualFor}
+use Rattle.vb_threads.specs.Machine.{Threw, Silent, Asks}
+use Rattle.vb_threads.specs.Same.{Equal, EqualFor}
+use Rattle.vb_threads.specs.Steps.{GoesWith}
+use Rattle.vb_threads.proofs.Steps.{meet, alone, both, skip, end, more, ask}
 use Rattle.vb_value.specs.Datum.{Datum, Number, Letters, Truth}
-use Rattle.vb_value.specs.Store.{Ask, New, Write as AsksWrite}
+use Rattle.vb_value.specs.Store.{New, Write as AsksWrite}
 use Rattle.vb_bound.specs.declared.tree.Operand.{Operand}
 use Rattle.vb_bound.specs.declared.tree.Operand.TheVariants.{Local, Number as NumberOperand}
 use Rattle.vb_bound.specs.declared.tree.Operator.{Operator}
@@ -20,7 +22,7 @@ use Rattle.vb_bound.specs.declared.tree.Condition.{Condition}
 use Rattle.vb_bound.specs.declared.tree.Statement.{Statement}
 use Rattle.vb_bound.specs.declared.tree.Statement.TheVariants.{Assign, WriteLine}
 use Rattle.vb_bound.specs.Tree.{Block, Done, Then, Loop, Tree}
-use Rattle.vb_meaning.specs.Source.{Pending, Declares, Gives, Does, Acts, Tests, Decides, SourceThread, Going, Gone as SourceGone, SourceNext, source_next, operand_value, arithmetic, value_of, related, line_text, throws as source_throws, or_overflows, writes, decided}
+use Rattle.vb_meaning.specs.Source.{Pending, Declares, Does, Acts, Tests, SourceThread, Going, SourceNext, source_next, operand_value, arithmetic, value_of, related, line_text, throws as source_throws, or_overflows, writes, decided}
 use Rattle.vb_code.specs.declared.instr.Instr.TheVariants.{PushText, StoreLocal, Arith, Compare, Concat, Intrinsic, Jump, JumpIf, Write, Return}
 use Rattle.vb_code.specs.declared.instr.Silent.TheVariants.{TextOf}
 use Rattle.vb_code.specs.declared.instr.Mark.TheVariants.{Always}
@@ -81,65 +83,17 @@ module _ (t : Tree) (c : Code) (steps : List Step) (is : IsCodeOf c steps) where
   abbrev pub p : SourceThread → SourceNext
   p = source_next t
 
-  -- The code's thread is where the tree's is, or comes there by itself. At most n silent steps come before its next beginning or end.
-  pub data Matches : ℕ → CodeThread → SourceThread → Type 0 where
-    between : {n : ℕ} {place : ℕ} {vars : List ℤ} {pending : List Pending} → 2 ≤ n → Leads steps place pending → Matches n (At place [] (numbers vars)) (Going vars pending)
-    returned : {n : ℕ} {vars : List ℤ} → 1 ≤ n → Matches n Returned (Going vars [])
-    gone : {n : ℕ} {over : Over} → Matches n (Gone over) (SourceGone over)
-    silent : {n m : ℕ} {s s' : CodeThread} {u : SourceThread} → q s ≡ Silent 0 s' → Matches m s' u → m + 1 ≤ n → Matches n s u
-    both : {n m b : ℕ} {s s' : CodeThread} {u u' : SourceThread} → q s ≡ Silent b s' → p u ≡ Silent b u' → Matches m s' u' → m + 1 ≤ n + 256 * b → Matches n s u
-    asks : {n m : ℕ} {a : Ask} {s s' : CodeThread} {u u' : SourceThread} → q s ≡ Asks a (λ r. true) (λ r. s') → p u ≡ Asks a (λ r. true) (λ r. u') → Matches m s' u' → m + 1 ≤ n → Matches n s u
-    skip : {n : ℕ} {s : CodeThread} {u u' : SourceThread} → p u ≡ Silent 0 u' → Matches n s u' → Matches n s u
+  -- between two statements: what is pending is what the code does from this place
+  pub data Between : ℕ → CodeThread → SourceThread → Type 0 where
+    between : {place : ℕ} {vars : List ℤ} {pending : List Pending} → Leads steps place pending → Between 2 (At place [] (numbers vars)) (Going vars pending)
 
-  -- what the tree does for a step of the code
-  abbrev pub Goes : ℕ → CodeNext → SourceThread → Type 0
-  Goes n (Silent b s) u = (m : ℕ) × (j : ℕ) × (begun p j u ≡ b) × Matches m s (quiet p j u) × (m + 1 ≤ n + 256 * b)
-  Goes n (Asks a k go) u = (m : ℕ) × (j : ℕ) × (begun p j u ≡ 0) × AsksAlike Equal EqualFor (Matches m) a k go (p (quiet p j u)) × (m + 1 ≤ n)
-  Goes n (Rests over) u = (j : ℕ) × (begun p j u ≡ 0) × RestsAlike over (p (quiet p j u))
+  -- the code goes on with the tree
+  abbrev pub Goes : Bool → ℕ → CodeThread → SourceThread → Type 0
+  Goes = GoesWith Equal EqualFor q p 256 Between
 
-  -- one step of the tree first
-  first_begun : (j b : ℕ) (u u' : SourceThread) → p u ≡ Silent b u' → begun p (suc j) u ≡ b + begun p j u'
-  first_begun j b u u' e = ap (λ y. begins_of y + begun p j (state_of u y)) e
-
-  first_quiet : (j b : ℕ) (u u' : SourceThread) → p u ≡ Silent b u' → quiet p (suc j) u ≡ quiet p j u'
-  first_quiet j b u u' e = ap (λ y. quiet p j (state_of u y)) e
-
-  goes_skip : (n : ℕ) (x : CodeNext) (u u' : SourceThread) → p u ≡ Silent 0 u' → Goes n x u' → Goes n x u
-  goes_skip n (Silent b s) u u' e g =
-      let count = first_begun g.1 0 u u' e in
-      let one = g.2 in
-      (g.0, suc g.1, omega arith, subst (λ v. Matches g.0 s v) (sym (first_quiet g.1 0 u u' e)) g.3, g.4)
-  goes_skip n (Asks a k go) u u' e g =
-      let count = first_begun g.1 0 u u' e in
-      let one = g.2 in
-      (g.0, suc g.1, omega arith, subst (λ v. AsksAlike Equal EqualFor (Matches g.0) a k go (p v)) (sym (first_quiet g.1 0 u u' e)) g.3, g.4)
-  goes_skip n (Rests over) u u' e g =
-      let count = first_begun g.0 0 u u' e in
-      let one = g.1 in
-      (suc g.0, omega arith, subst (λ v. RestsAlike over (p v)) (sym (first_quiet g.0 0 u u' e)) g.2)
-
-  goes_silent : (n : ℕ) (s : CodeThread) (u : SourceThread) {m : ℕ} {s' : CodeThread} → q s ≡ Silent 0 s' → Matches m s' u → m + 1 ≤ n → Goes n (q s) u
-  goes_silent n s u {m} {s'} e h le = subst (λ x. Goes n x u) (sym e) (m, 0, refl, h, omega arith)
-
-  goes_both : (n : ℕ) (s : CodeThread) (u : SourceThread) {m b : ℕ} {s' : CodeThread} {u' : SourceThread} → q s ≡ Silent b s' → p u ≡ Silent b u' → Matches m s' u' → m + 1 ≤ n + 256 * b → Goes n (q s) u
-  goes_both n s u {m} {b} {s'} {u'} e f h le =
-      let count = first_begun 0 b u u' f in
-      let counted : begun p 1 u ≡ b = omega arith in
-      subst (λ x. Goes n x u) (sym e) (m, 1, counted, subst (λ v. Matches m s' v) (sym (first_quiet 0 b u u' f)) h, le)
-
-  goes_asks : (n : ℕ) (s : CodeThread) (u : SourceThread) {m : ℕ} {a : Ask} {s' : CodeThread} {u' : SourceThread} → q s ≡ Asks a (λ r. true) (λ r. s') → p u ≡ Asks a (λ r. true) (λ r. u') → Matches m s' u' → m + 1 ≤ n → Goes n (q s) u
-  goes_asks n s u {m} {a} {s'} {u'} e f h le =
-      subst (λ x. Goes n x u) (sym e) (m, 0, refl, subst (λ y. AsksAlike Equal EqualFor (Matches m) a (λ r. true) (λ r. s') y) (sym f) (refl, λ r r' g. (refl, h)), le)
-
-  -- a larger number
-  more : {n : ℕ} {s : CodeThread} {u : SourceThread} → Matches n s u → (k : ℕ) → n ≤ k → Matches k s u
-  more (between two l) k le = between (omega arith) l
-  more (returned one) k le = returned (omega arith)
-  more gone k le = gone
-  more (silent e h lt) k le = silent e h (omega arith)
-  more (both e f h lt) k le = both e f h (omega arith)
-  more (asks e f h lt) k le = asks e f h (omega arith)
-  more (skip e h) k le = skip e (more h k le)
+  -- after the last instruction
+  pub returned : {due : Bool} (vars : List ℤ) → Goes due 1 Returned (Going vars [])
+  returned vars = ask refl refl (λ r. end refl refl)
 
   -- what the code does at a place
   pub turn : (place : ℕ) (s : Step) (ops slots : List Datum) → slice_get steps place ≡ Some s → q (At place ops slots) ≡ act c s.instr s.begins place ops slots
@@ -160,7 +114,7 @@ module _ (t : Tree) (c : Code) (steps : List Step) (is : IsCodeOf c steps) where
   store x place v vars e = turn place (step 0 (StoreLocal x)) (Number Integer v ∷ []) (numbers vars) e ∙ ap (λ l. Silent 0 (At (place + 1) [] l)) (numbers_set vars x v)
 
   -- arithmetic, which the tree does too
-  module _ (e : Expr) (n place : ℕ) (o : Operator) (x y : ℤ) (vars : List ℤ) (u : SourceThread) (there : slice_get steps place ≡ Some (step 0 (Arith (arithmetic_of o) Integer))) where
+  module _ (n place : ℕ) (o : Operator) (x y : ℤ) (vars : List ℤ) (u : SourceThread) (there : slice_get steps place ≡ Some (step 0 (Arith (arithmetic_of o) Integer))) where
     abbrev before : CodeThread
     before = At place (Number Integer y ∷ Number Integer x ∷ []) (numbers vars)
 
@@ -170,26 +124,20 @@ module _ (t : Tree) (c : Code) (steps : List Step) (is : IsCodeOf c steps) where
     next_is : (r : Option ℤ) → arithmetic o x y ≡ r → q before ≡ or_throws c overflow r (λ v. Silent 0 (after v))
     next_is r e = turn place (step 0 (Arith (arithmetic_of o) Integer)) (Number Integer y ∷ Number Integer x ∷ []) (numbers vars) there ∙ ap (λ r. or_throws c overflow r (λ v. Silent 0 (after v))) (arith_same o x y ∙ e)
 
-    arith_at : (r : Option ℤ) → arithmetic o x y ≡ r → (r ≡ None → p u ≡ source_throws overflow) → ((v : ℤ) → r ≡ Some v → Matches n (after v) u) → Matches (n + 1) before u
-    arith_at None e none some = asks {m = 0} (next_is None e ∙ is.overflows) (none refl) gone (omega arith)
-    arith_at (Some v) e none some = silent (next_is (Some v) e) (some v refl) (omega arith)
+    arith_at : (r : Option ℤ) → arithmetic o x y ≡ r → (r ≡ None → p u ≡ source_throws overflow) → ((v : ℤ) → r ≡ Some v → Goes false n (after v) u) → Goes false (n + 1) before u
+    arith_at None e none some = more (omega arith) (ask (next_is None e ∙ is.overflows) (none refl) (λ r. end refl refl))
+    arith_at (Some v) e none some = alone (next_is (Some v) e) (some v refl)
 
-  -- where a statement has begun with its expression
-  record Evaluates (n place : ℕ) (vars : List ℤ) (u : SourceThread) : Type 0 where
-    pub state : CodeThread
-    pub begins : q (At place [] (numbers vars)) ≡ Silent 1 state
-    pub goes : Matches n state u
-
-  evaluates : (e : Expr) (n place : ℕ) (vars : List ℤ) (u : SourceThread) → HasAt steps place (expr_code e) → (value_of vars e ≡ None → p u ≡ source_throws overflow)
-      → ((v : ℤ) → value_of vars e ≡ Some v → Matches n (At (place + length (expr_code e)) (Number Integer v ∷ []) (numbers vars)) u) → Evaluates (n + 2) place vars u
-  evaluates (One v) n place vars u h none some =
-      record { state = At (place + 1) (Number Integer (operand_value vars v) ∷ []) (numbers vars); begins = push v 1 place [] vars h.0; goes = more (some (operand_value vars v) refl) (n + 2) (omega arith) }
-  evaluates (Two v o w) n place vars u h none some =
+  -- a statement begins with its expression
+  evaluates : (e : Expr) (n place : ℕ) (vars : List ℤ) (u v : SourceThread) → p u ≡ Silent 1 v → n + 3 ≤ 256 → HasAt steps place (expr_code e) → (value_of vars e ≡ None → p v ≡ source_throws overflow)
+      → ((x : ℤ) → value_of vars e ≡ Some x → Goes false n (At (place + length (expr_code e)) (Number Integer x ∷ []) (numbers vars)) v) → Goes true 2 (At place [] (numbers vars)) u
+  evaluates (One v) n place vars u after begins le h none some = both (push v 1 place [] vars h.0) begins (some (operand_value vars v) refl) (omega arith)
+  evaluates (Two v o w) n place vars u after begins le h none some =
       let x = operand_value vars v in
       let y = operand_value vars w in
       let place3 : place + 3 ≡ place + 1 + 1 + 1 = omega arith in
-      let last = arith_at (Two v o w) n (place + 1 + 1) o x y vars u h.1.1.0 (arithmetic o x y) refl none (λ z e. subst (λ k. Matches n (At k (Number Integer z ∷ []) (numbers vars)) u) place3 (some z e)) in
-      record { state = At (place + 1) (Number Integer x ∷ []) (numbers vars); begins = push v 1 place [] vars h.0; goes = silent (push w 0 (place + 1) (Number Integer x ∷ []) vars h.1.0) last (omega arith) }
+      let last = arith_at n (place + 1 + 1) o x y vars after h.1.1.0 (arithmetic o x y) refl none (λ z e. subst (λ k. Goes false n (At k (Number Integer z ∷ []) (numbers vars)) after) place3 (some z e)) in
+      both (push v 1 place [] vars h.0) begins (alone (push w 0 (place + 1) (Number Integer x ∷ []) vars h.1.0) last) (omega arith)
 
   -- the number on the stack is written as a line
   module _ (v : ℤ) (place : ℕ) (vars : List ℤ) (u : SourceThread) (rest : List Pending) (h : HasAt steps place line_code) (writing : p u ≡ writes (line_text v) (Going vars rest)) (l : Leads steps (place + 1 + 1 + 1 + 1) rest) where
@@ -205,39 +153,35 @@ module _ (t : Tree) (c : Code) (steps : List Step) (is : IsCodeOf c steps) where
     abbrev says : Bool → SourceNext
     says b = if b then Asks (AsksWrite (line_text v)) (λ r. true) (λ r. Going vars rest) else source_throws out_of_memory
 
-    concat_at : (b : Bool) → nat_le (length (line_text v)) most_units ≡ b → Matches 4 (At (place + 1 + 1) texts_at slots) u
+    concat_at : (b : Bool) → nat_le (length (line_text v)) most_units ≡ b → Goes false 4 (At (place + 1 + 1) texts_at slots) u
     concat_at true e =
-        silent {m = 3} (turn (place + 1 + 1) (step 0 Concat) texts_at slots h.1.1.0 ∙ ap joins e)
-        (asks {m = 2} (turn (place + 1 + 1 + 1) (step 0 (Write Always)) (Letters (Some (line_text v)) ∷ []) slots h.1.1.1.0) (writing ∙ ap says e) (between (omega arith) l) (omega arith))
-        (omega arith)
-    concat_at false e = asks {m = 0} (turn (place + 1 + 1) (step 0 Concat) texts_at slots h.1.1.0 ∙ ap joins e ∙ is.memory) (writing ∙ ap says e) gone (omega arith)
+        alone (turn (place + 1 + 1) (step 0 Concat) texts_at slots h.1.1.0 ∙ ap joins e)
+        (ask (turn (place + 1 + 1 + 1) (step 0 (Write Always)) (Letters (Some (line_text v)) ∷ []) slots h.1.1.1.0) (writing ∙ ap says e) (λ r. meet (between l)))
+    concat_at false e = more (omega arith) (ask (turn (place + 1 + 1) (step 0 Concat) texts_at slots h.1.1.0 ∙ ap joins e ∙ is.memory) (writing ∙ ap says e) (λ r. end refl refl))
 
-    line_at : Matches 6 (At place (Number Integer v ∷ []) slots) u
+    line_at : Goes false 6 (At place (Number Integer v ∷ []) slots) u
     line_at =
-        silent {m = 5} (turn place (step 0 (Intrinsic TextOf)) (Number Integer v ∷ []) slots h.0)
-        (silent {m = 4} (turn (place + 1) (step 0 (PushText 0)) (Letters (Some (signed_decimal v)) ∷ []) slots h.1.0 ∙ ap (λ text. Silent 0 (At (place + 1 + 1) (Letters (Some text) ∷ Letters (Some (signed_decimal v)) ∷ []) slots)) is.line)
-        (concat_at (nat_le (length (line_text v)) most_units) refl) (omega arith)) (omega arith)
+        alone (turn place (step 0 (Intrinsic TextOf)) (Number Integer v ∷ []) slots h.0)
+        (alone (turn (place + 1) (step 0 (PushText 0)) (Letters (Some (signed_decimal v)) ∷ []) slots h.1.0 ∙ ap (λ text. Silent 0 (At (place + 1 + 1) (Letters (Some text) ∷ Letters (Some (signed_decimal v)) ∷ []) slots)) is.line)
+        (concat_at (nat_le (length (line_text v)) most_units) refl))
 
-  statement_goes : (s : Statement) (n place : ℕ) (block : Block) (rest : List Pending) (vars : List ℤ) → HasAt steps place (statement_code s) → Leads steps (place + length (statement_code s)) (Does block ∷ rest) → Goes n (q (At place [] (numbers vars))) (Going vars (Does (Then s block) ∷ rest))
-  statement_goes (Assign x e) n place block rest vars h l =
-      let u = Going vars (Acts (Assign x e) ∷ Does block ∷ rest) in
+  statement_goes : (s : Statement) (place : ℕ) (block : Block) (rest : List Pending) (vars : List ℤ) → HasAt steps place (statement_code s) → Leads steps (place + length (statement_code s)) (Does block ∷ rest) → Goes true 2 (At place [] (numbers vars)) (Going vars (Does (Then s block) ∷ rest))
+  statement_goes (Assign x e) place block rest vars h l =
       let goes = λ (o : Option ℤ). or_overflows o (λ v. Silent 0 (Going (slice_set vars x.0 v) (Does block ∷ rest))) in
       let there = has_back steps place (expr_code e) (step 0 (StoreLocal x.0) ∷ []) h in
       let long : place + length (expr_code e ++ step 0 (StoreLocal x.0) ∷ []) ≡ place + length (expr_code e) + 1 = omega (arith, length-append (expr_code e) (step 0 (StoreLocal x.0) ∷ [])) in
-      let l' : Leads steps (place + length (expr_code e) + 1) (Does block ∷ rest) = subst (λ k. Leads steps k (Does block ∷ rest)) long l in
-      let ev = evaluates e 3 place vars u (has_front steps place (expr_code e) (step 0 (StoreLocal x.0) ∷ []) h) (λ z. ap goes z) (λ v z. both {m = 2} (store x.0 (place + length (expr_code e)) v vars there.0) (ap goes z) (between (omega arith) l') (omega arith)) in
-      goes_both n (At place [] (numbers vars)) (Going vars (Does (Then (Assign x e) block) ∷ rest)) ev.begins refl ev.goes (omega arith)
-  statement_goes (WriteLine e) n place block rest vars h l =
+      evaluates e 3 place vars (Going vars (Does (Then (Assign x e) block) ∷ rest)) (Going vars (Acts (Assign x e) ∷ Does block ∷ rest)) refl (omega arith) (has_front steps place (expr_code e) (step 0 (StoreLocal x.0) ∷ []) h) (λ z. ap goes z)
+      (λ v z. skip (ap goes z) (alone (store x.0 (place + length (expr_code e)) v vars there.0) (meet (between (subst (λ k. Leads steps k (Does block ∷ rest)) long l)))))
+  statement_goes (WriteLine e) place block rest vars h l =
       let u = Going vars (Acts (WriteLine e) ∷ Does block ∷ rest) in
       let goes = λ (o : Option ℤ). or_overflows o (λ v. writes (line_text v) (Going vars (Does block ∷ rest))) in
       let there = has_back steps place (expr_code e) line_code h in
       let long : place + length (expr_code e ++ line_code) ≡ place + length (expr_code e) + 1 + 1 + 1 + 1 = omega (arith, length-append (expr_code e) line_code) in
-      let l' : Leads steps (place + length (expr_code e) + 1 + 1 + 1 + 1) (Does block ∷ rest) = subst (λ k. Leads steps k (Does block ∷ rest)) long l in
-      let ev = evaluates e 6 place vars u (has_front steps place (expr_code e) line_code h) (λ z. ap goes z) (λ v z. line_at v (place + length (expr_code e)) vars u (Does block ∷ rest) there (ap goes z) l') in
-      goes_both n (At place [] (numbers vars)) (Going vars (Does (Then (WriteLine e) block) ∷ rest)) ev.begins refl ev.goes (omega arith)
+      evaluates e 6 place vars (Going vars (Does (Then (WriteLine e) block) ∷ rest)) u refl (omega arith) (has_front steps place (expr_code e) line_code h) (λ z. ap goes z)
+      (λ v z. line_at v (place + length (expr_code e)) vars u (Does block ∷ rest) there (ap goes z) (subst (λ k. Leads steps k (Does block ∷ rest)) long l))
 
   -- the test of a loop
-  module _ (n place first : ℕ) (test : Condition) (block : Block) (rest : List Pending) (vars : List ℤ) (h : HasAt steps place (test_code first test)) (inner : HasAt steps first (block_code first block)) (at : first + length (block_code first block) ≡ place) (l : Leads steps (place + 1 + 1 + 1 + 1) rest) where
+  module _ (place first : ℕ) (test : Condition) (block : Block) (rest : List Pending) (vars : List ℤ) (h : HasAt steps place (test_code first test)) (inner : HasAt steps first (block_code first block)) (at : first + length (block_code first block) ≡ place) (l : Leads steps (place + 1 + 1 + 1 + 1) rest) where
     abbrev x : ℤ
     x = operand_value vars test.left
 
@@ -247,30 +191,29 @@ module _ (t : Tree) (c : Code) (steps : List Step) (is : IsCodeOf c steps) where
     abbrev b : Bool
     b = compared (comparison_of test.relation) x y
 
-    decided_at : (b : Bool) → Matches 2 (At (if b then first else place + 1 + 1 + 1 + 1) [] (numbers vars)) (Going vars (decided b test block rest))
-    decided_at true = between (omega arith) (does place inner at (tests first h inner at l))
-    decided_at false = between (omega arith) l
+    decided_at : (b : Bool) → Goes false 2 (At (if b then first else place + 1 + 1 + 1 + 1) [] (numbers vars)) (Going vars (decided b test block rest))
+    decided_at true = meet (between (does place inner at (tests first h inner at l)))
+    decided_at false = meet (between l)
 
-    deciding : Matches 6 (At (place + 1) (Number Integer x ∷ []) (numbers vars)) (Going vars (Decides test block ∷ rest))
-    deciding =
-        silent {m = 5} (push test.right 0 (place + 1) (Number Integer x ∷ []) vars h.1.0)
-        (silent {m = 4} (turn (place + 1 + 1) (step 0 (Compare (comparison_of test.relation))) (Number Integer y ∷ Number Integer x ∷ []) (numbers vars) h.1.1.0)
-        (both {m = 2} (turn (place + 1 + 1 + 1) (step 0 (JumpIf first)) (Truth b ∷ []) (numbers vars) h.1.1.1.0) (ap (λ b. Silent 0 (Going vars (decided b test block rest))) (sym (compared_same test.relation x y))) (decided_at b) (omega arith)) (omega arith)) (omega arith)
+    test_goes : Goes true 2 (At place [] (numbers vars)) (Going vars (Tests test block ∷ rest))
+    test_goes =
+        both (push test.left 1 place [] vars h.0) refl
+        (alone (push test.right 0 (place + 1) (Number Integer x ∷ []) vars h.1.0)
+        (alone (turn (place + 1 + 1) (step 0 (Compare (comparison_of test.relation))) (Number Integer y ∷ Number Integer x ∷ []) (numbers vars) h.1.1.0)
+        (skip (ap (λ b. Silent 0 (Going vars (decided b test block rest))) (sym (compared_same test.relation x y)))
+        (alone (turn (place + 1 + 1 + 1) (step 0 (JumpIf first)) (Truth b ∷ []) (numbers vars) h.1.1.1.0) (decided_at b))))) (omega arith)
 
-    test_goes : Goes n (q (At place [] (numbers vars))) (Going vars (Tests test block ∷ rest))
-    test_goes = goes_both n (At place [] (numbers vars)) (Going vars (Tests test block ∷ rest)) (push test.left 1 place [] vars h.0) refl deciding (omega arith)
-
-  block_goes : (block : Block) (n place after : ℕ) (rest : List Pending) (vars : List ℤ) → HasAt steps place (block_code place block) → place + length (block_code place block) ≡ after → Leads steps after rest
-      → Goes n (q (At after [] (numbers vars))) (Going vars rest) → Goes n (q (At place [] (numbers vars))) (Going vars (Does block ∷ rest))
-  block_goes Done n place after rest vars h at l ih =
+  block_goes : (block : Block) (place after : ℕ) (rest : List Pending) (vars : List ℤ) → HasAt steps place (block_code place block) → place + length (block_code place block) ≡ after → Leads steps after rest
+      → Goes true 2 (At after [] (numbers vars)) (Going vars rest) → Goes true 2 (At place [] (numbers vars)) (Going vars (Does block ∷ rest))
+  block_goes Done place after rest vars h at l ih =
       let same : after ≡ place = omega arith in
-      goes_skip n (q (At place [] (numbers vars))) (Going vars (Does Done ∷ rest)) (Going vars rest) refl (subst (λ k. Goes n (q (At k [] (numbers vars))) (Going vars rest)) same ih)
-  block_goes (Then s block) n place after rest vars h at l ih =
+      skip refl (subst (λ k. Goes true 2 (At k [] (numbers vars)) (Going vars rest)) same ih)
+  block_goes (Then s block) place after rest vars h at l ih =
       let next = place + length (statement_code s) in
       let behind = block_code next block in
       let at' : next + length behind ≡ after = omega (arith, length-append (statement_code s) behind) in
-      statement_goes s n place block rest vars (has_front steps place (statement_code s) behind h) (does after (has_back steps place (statement_code s) behind h) at' l)
-  block_goes (Loop test body block) n place after rest vars h at l ih =
+      statement_goes s place block rest vars (has_front steps place (statement_code s) behind h) (does after (has_back steps place (statement_code s) behind h) at' l)
+  block_goes (Loop test body block) place after rest vars h at l ih =
       let inner = block_code (place + 1) body in
       let tested = place + 1 + length inner in
       let tail = test_code (place + 1) test in
@@ -282,37 +225,29 @@ module _ (t : Tree) (c : Code) (steps : List Step) (is : IsCodeOf c steps) where
       let same = ap (λ k. length (block_code k block)) next in
       let at' : tested + 1 + 1 + 1 + 1 + length (block_code (tested + 1 + 1 + 1 + 1) block) ≡ after = omega (arith, length-append inner (tail ++ behind), length-append tail behind) in
       let tested_at = tests (place + 1) (has_front steps tested tail behind test_there) inside refl (does after behind_there at' l) in
-      goes_both n (At place [] (numbers vars)) (Going vars (Does (Loop test body block) ∷ rest)) (turn place (step 1 (Jump tested)) [] (numbers vars) h.0) refl (between {n = 2} (omega arith) tested_at) (omega arith)
+      both (turn place (step 1 (Jump tested)) [] (numbers vars) h.0) refl (meet (between tested_at)) (omega arith)
 
-  locals_goes : (ds : List (Option Operand)) (n x place after : ℕ) (rest : List Pending) (vars : List ℤ) → HasAt steps place (locals_code place x ds) → place + length (locals_code place x ds) ≡ after → Leads steps after rest
-      → Goes n (q (At after [] (numbers vars))) (Going vars rest) → Goes n (q (At place [] (numbers vars))) (Going vars (Declares x ds ∷ rest))
-  locals_goes [] n x place after rest vars h at l ih =
+  locals_goes : (ds : List (Option Operand)) (x place after : ℕ) (rest : List Pending) (vars : List ℤ) → HasAt steps place (locals_code place x ds) → place + length (locals_code place x ds) ≡ after → Leads steps after rest
+      → Goes true 2 (At after [] (numbers vars)) (Going vars rest) → Goes true 2 (At place [] (numbers vars)) (Going vars (Declares x ds ∷ rest))
+  locals_goes [] x place after rest vars h at l ih =
       let same : after ≡ place = omega arith in
-      goes_skip n (q (At place [] (numbers vars))) (Going vars (Declares x [] ∷ rest)) (Going vars rest) refl (subst (λ k. Goes n (q (At k [] (numbers vars))) (Going vars rest)) same ih)
-  locals_goes (None ∷ ds) n x place after rest vars h at l ih =
+      skip refl (subst (λ k. Goes true 2 (At k [] (numbers vars)) (Going vars rest)) same ih)
+  locals_goes (None ∷ ds) x place after rest vars h at l ih =
       let at' : place + 1 + length (locals_code (place + 1) (x + 1) ds) ≡ after = omega arith in
-      goes_both n (At place [] (numbers vars)) (Going vars (Declares x (None ∷ ds) ∷ rest)) (turn place (step 1 (Jump (place + 1))) [] (numbers vars) h.0) refl (between {n = 2} (omega arith) (declares after h.1 at' l)) (omega arith)
-  locals_goes (Some v ∷ ds) n x place after rest vars h at l ih =
+      both (turn place (step 1 (Jump (place + 1))) [] (numbers vars) h.0) refl (meet (between (declares after h.1 at' l))) (omega arith)
+  locals_goes (Some v ∷ ds) x place after rest vars h at l ih =
       let next : place + 2 ≡ place + 1 + 1 = omega arith in
       let there = subst (λ k. HasAt steps (place + 1 + 1) (locals_code k (x + 1) ds)) next h.1.1 in
       let same = ap (λ k. length (locals_code k (x + 1) ds)) next in
       let at' : place + 1 + 1 + length (locals_code (place + 1 + 1) (x + 1) ds) ≡ after = omega arith in
-      let given : Matches 3 (At (place + 1) (Number Integer (operand_value vars v) ∷ []) (numbers vars)) (Going vars (Gives x v ∷ Declares (x + 1) ds ∷ rest)) =
-      both {m = 2} (store x (place + 1) (operand_value vars v) vars h.1.0) refl (between (omega arith) (declares after there at' l)) (omega arith) in
-      goes_both n (At place [] (numbers vars)) (Going vars (Declares x (Some v ∷ ds) ∷ rest)) (push v 2 place [] vars h.0) refl given (omega arith)
+      both (push v 2 place [] vars h.0) refl (skip refl (alone (store x (place + 1) (operand_value vars v) vars h.1.0) (meet (between (declares after there at' l))))) (omega arith)
 
-  leads_goes : {place : ℕ} {pending : List Pending} → Leads steps place pending → (n : ℕ) → 2 ≤ n → (vars : List ℤ) → Goes n (q (At place [] (numbers vars))) (Going vars pending)
-  leads_goes (ends {place = place} e) n two vars = goes_silent n (At place [] (numbers vars)) (Going vars []) (turn place (step 0 Return) [] (numbers vars) e) (returned {n = 1} (omega arith)) (omega arith)
-  leads_goes (declares {place = place} {x = x} {ds = ds} {rest = rest} after h at l) n two vars = locals_goes ds n x place after rest vars h at l (leads_goes l n two vars)
-  leads_goes (does {place = place} {block = block} {rest = rest} after h at l) n two vars = block_goes block n place after rest vars h at l (leads_goes l n two vars)
-  leads_goes (tests {place = place} {test = test} {block = block} {rest = rest} first h inner at l) n two vars = test_goes n place first test block rest vars h inner at l
+  leads_goes : {place : ℕ} {pending : List Pending} → Leads steps place pending → (vars : List ℤ) → Goes true 2 (At place [] (numbers vars)) (Going vars pending)
+  leads_goes (ends {place = place} e) vars = alone (turn place (step 0 Return) [] (numbers vars) e) (returned vars)
+  leads_goes (declares {place = place} {x = x} {ds = ds} {rest = rest} after h at l) vars = locals_goes ds x place after rest vars h at l (leads_goes l vars)
+  leads_goes (does {place = place} {block = block} {rest = rest} after h at l) vars = block_goes block place after rest vars h at l (leads_goes l vars)
+  leads_goes (tests {place = place} {test = test} {block = block} {rest = rest} first h inner at l) vars = test_goes place first test block rest vars h inner at l
 
-  -- each step of the code
-  pub goes_on : {n : ℕ} {s : CodeThread} {u : SourceThread} → Matches n s u → Goes n (q s) u
-  goes_on {n} (between {vars = vars} two l) = leads_goes l n two vars
-  goes_on {n} (returned {vars = vars} one) = (0, 0, refl, (refl, λ r r' g. (refl, gone)), omega arith)
-  goes_on gone = (0, refl, refl)
-  goes_on {n} {s} {u} (silent e h le) = goes_silent n s u e h le
-  goes_on {n} {s} {u} (both e f h le) = goes_both n s u e f h le
-  goes_on {n} {s} {u} (asks e f h le) = goes_asks n s u e f h le
-  goes_on {n} {s} {u} (skip {u' = u'} e h) = goes_skip n (q s) u u' e (goes_on h)
+  -- from between two statements the code goes on
+  pub goes_on : (n : ℕ) (s : CodeThread) (u : SourceThread) → Between n s u → Goes true n s u
+  goes_on n s u (between {vars = vars} l) = leads_goes l vars
