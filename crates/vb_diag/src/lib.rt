@@ -1,14 +1,19 @@
-//! The rules of the language that a text may break, and the line that tells of a broken one.
+//! The rules of the language that a text may break, which of the broken ones is told, and the line that tells it.
+//!
+//! A broken rule is a [`Refusal`]. Of several the least is told: files come in the order in which they were given, then lines, then
+//! numbers. [`lesser`] joins two answers into one.
 //!
 //! A rule has a number, printed as `V` and three digits, and a text. A line of refusal names the
 //! file, the line in it and the rule: `main.vb(3): error V140: the name isn't declared`. Only
 //! [`refusal_line`] takes memory.
 #![tactic(auto)]
 
+mod broken;
 mod refusal;
 mod rule;
 mod table;
 
+pub use broken::{broken_at, lesser, lesser_joins};
 pub use refusal::{Refusal, refusal_line};
 pub use rule::{Rule, rule_text};
 

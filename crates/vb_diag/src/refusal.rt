@@ -6,15 +6,15 @@ use crate::rule::{Rule, rule_text};
 use itoa::Buffer;
 use std::alloc::{AllocError, Global};
 
-/// A rule that a line of a file breaks.
-#[derive(Clone, Copy, Debug, PartialEq, Eq)]
+/// A rule that a line of a file breaks. The lesser of two, by file, line and number, is told before the other.
+#[derive(Clone, Copy, Debug, PartialEq, Eq, PartialOrd, Ord)]
 pub struct Refusal {
-    /// The rule.
-    pub rule: Rule,
     /// The file, from 0 in the order in which the files were given.
     pub file: u32,
     /// The line of the file, from 1.
     pub line: u32,
+    /// The rule.
+    pub rule: Rule,
 }
 
 /// Appends the line that tells a refusal: `FILE(LINE): error VNNN: TEXT` and the line's end, where

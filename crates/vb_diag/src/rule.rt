@@ -9,7 +9,7 @@ use std::marker::Model;
 ///
 /// The number is one of the table: 1 to 10, 30 to 36, 80, 94, 95, 100, 110 to 121, 140 to 150, 152
 /// to 158, 160 to 167, 169 to 174, or 999, the rule against a form that isn't built yet.
-#[derive(Clone, Copy, Debug, PartialEq, Eq)]
+#[derive(Clone, Copy, Debug, PartialEq, Eq, PartialOrd, Ord)]
 pub struct Rule {
     number: u16,
 }

@@ -37,3 +37,16 @@ fn tells_a_refusal(rt: HostRuntime) -> Result<(), Fail> {
     }
     Ok(())
 }
+
+#[test]
+fn tells_the_least(rt: HostRuntime) -> Result<(), Fail> {
+    let here = broken_at(1, Rule::new(4), Some(7));
+    for (file, number, line) in [(0, 30, 9), (1, 30, 2), (1, 3, 7)] {
+        let before = broken_at(file, Rule::new(number), Some(line));
+        assert_eq!(rt; lesser(here, before), before);
+        assert_eq!(rt; lesser(before, here), before);
+    }
+    assert_eq!(rt; lesser(here, broken_at(0, Rule::new(1), None)), here);
+    assert_eq!(rt; lesser(Some(3), Some(2)), Some(2));
+    Ok(())
+}
