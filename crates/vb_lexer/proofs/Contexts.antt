@@ -17,7 +17,7 @@ use Rattle.vb_lexer.specs.declared.characters.Class.{Class}
 use Rattle.vb_lexer.specs.declared.characters.Class.TheVariants as class
 use Rattle.vb_lexer.specs.Characters.{Character, is_char, class_of, run_len, is_space, is_readable}
 use Rattle.vb_lexer.specs.Tables.{keywords, symbols}
-use Rattle.vb_lexer.specs.Tokens.{char_at, found, fault, longest_name, name_len, lowered, is_rem, keyword_in, keyword_or_name, word_of, connected_of, begins_name, bracketed_of, digits_len, base_number, value_from, literal_of, suffixes, suffix_in, suffix_type, suffix_len, starts, integer_or_fault, number_of, number_at, symbol_in, symbol_or_fault, symbol_at, ampersand_at, content_len, quoted_of, quoted_or_fault, units_of}
+use Rattle.vb_lexer.specs.Tokens.{char_at, found, fault, longest_name, name_len, lowered, is_rem, keyword_in, keyword_or_name, word_of, connected_of, begins_name, bracketed_of, digits_len, base_number, value_from, literal_of, suffixes, suffix_in, suffix_type, suffix_len, starts, integer_or_fault, number_of, number_at, symbol_in, symbol_or_fault, symbol_at, ampersand_at, content_len, char_literal, text_literal, quoted_of, quoted_or_fault, units_of}
 use Rattle.vb_lexer.specs.Pieces.{ends_line, space_of, region_at, piece_of, piece_at}
 
 abbrev is_region : Piece → Bool
@@ -77,11 +77,19 @@ ampersand_plain text =
     plain_if (starts (codes "&h") text) _ _ (number_plain Hexadecimal 2 text)
     (plain_if (starts (codes "&o") text) _ _ (number_plain Octal 2 text) (symbol_plain text))
 
+char_plain : (m : ℕ) (units : List ℕ) (text : List Character) → Plain (char_literal m units text)
+unfolding char_literal
+char_plain m units text =
+    plain_if (nat_lt 1 (length units)) _ _ refl (plain_if (not (is_readable (take m (drop 1 text)))) _ _ refl (plain_if (length units == 1) _ _ refl refl))
+
+text_plain : (m : ℕ) (units : List ℕ) (text : List Character) → Plain (text_literal m units text)
+unfolding text_literal
+text_plain m units text =
+    plain_if (nat_lt most_units (length units)) _ _ refl (plain_if (not (is_readable (take m (drop 1 text)))) _ _ refl refl)
+
 quoted_of_plain : (m : ℕ) (units : List ℕ) (text : List Character) → Plain (quoted_of m units text)
-unfolding quoted_of
 quoted_of_plain m units text =
-    plain_if (not (is_readable (take m (drop 1 text)))) _ _ refl
-    (plain_if (starts (codes "c") (drop (m + 2) text)) _ _ (plain_if (length units == 1) _ _ refl refl) (plain_if (nat_lt most_units (length units)) _ _ refl refl))
+    plain_if (starts (codes "c") (drop (m + 2) text)) _ _ (char_plain m units text) (text_plain m units text)
 
 quoted_by : (m : Option ℕ) (text : List Character) → Plain (quoted_or_fault m text)
 quoted_by None text = refl

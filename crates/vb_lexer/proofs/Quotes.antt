@@ -1,14 +1,11 @@
 -- The contents of literals.
-use Rattle.std.proofs.Common.{◌≡◌, ℕ, zero, suc, ◌+◌, ◌<◌, ◌≤◌, Bool, true, false, ◌==◌, nat_lt, List, [], ◌∷◌, ◌++◌, length, get_or, take, drop, drop-cons, add-one, append_assoc, length-append, codes, slice_index, cond, Option, None, Some, refl, ap, sym, ◌∙◌, arith, if◌then◌else◌}
+use Rattle.std.proofs.Common.{◌≡◌, ℕ, zero, suc, ◌+◌, ◌<◌, ◌≤◌, Bool, true, false, ◌==◌, nat_lt, List, [], ◌∷◌, ◌++◌, length, get_or, take, drop, drop-cons, add-one, append_assoc, length-append, codes, cond, Option, None, Some, refl, ap, sym, ◌∙◌, arith, if◌then◌else◌}
 use Rattle.std.specs.Prelude.{Result, Ok, Err, is_ok, OnOk}
 use Rattle.std.specs.Char.Escape.{encode_utf16}
 use Rattle.std.proofs.lemmas.Bool.{eqb-true, ltb-true, ltb-false}
 use Rattle.std.proofs.lemmas.List.{drop-drop, drop_all}
-use Rattle.vb_text.specs.Units.{most_units}
-use Rattle.vb_lexer.specs.declared.piece.Piece.TheVariants as piece
-use Rattle.vb_lexer.specs.declared.piece.Fault.TheVariants as broken
-use Rattle.vb_lexer.specs.Characters.{Character, is_char, is_line_end, is_line_end_code, is_readable}
-use Rattle.vb_lexer.specs.Tokens.{char_at, plus_some, content_len, units_of, starts, found, fault, quoted_of, quoted_or_fault, quoted_at}
+use Rattle.vb_lexer.specs.Characters.{Character, is_char, is_line_end, is_line_end_code}
+use Rattle.vb_lexer.specs.Tokens.{char_at, plus_some, content_len, units_of, starts, char_literal, text_literal, quoted_of, quoted_or_fault, quoted_at}
 
 -- THE TEXT AT A PLACE
 
@@ -213,27 +210,21 @@ quoted_some text rest n is len =
     ap (λ r. quoted_of n (units_of (take n r)) text) is
     ∙ ap (λ o. quoted_or_fault o text) (sym (ap content_len (sym is) ∙ len))
 
-pub unreadable_is : (text content : List Character) (n : ℕ) (units : List ℕ) → content ≡ take n (drop 1 text) → is_readable content ≡ false → fault broken.NotUtf8 text ≡ quoted_of n units text
-unfolding quoted_of
-unreadable_is text content n units is unreadable =
-    let bad : is_readable (take n (drop 1 text)) ≡ false = ap is_readable (sym is) ∙ unreadable in rw bad refl
-
-pub char_literal : (text content behind : List Character) (n : ℕ) (units : List ℕ) → content ≡ take n (drop 1 text) → is_readable content ≡ true → behind ≡ drop (n + 2) text → starts (codes "c") behind ≡ true → (if length units == 1 then found (piece.Char (slice_index units 0)) (n + 3) else fault broken.TextLiteral text) ≡ quoted_of n units text
-unfolding quoted_of
-char_literal text content behind n units is good after marked =
-    let good : is_readable (take n (drop 1 text)) ≡ true = ap is_readable (sym is) ∙ good in
-    let marked : starts (codes "c") (drop (n + 2) text) ≡ true = ap (λ l. starts (codes "c") l) (sym after) ∙ marked in
-    rw (good, marked) refl
-
-pub text_literal : (text content behind : List Character) (n : ℕ) (units : List ℕ) → content ≡ take n (drop 1 text) → is_readable content ≡ true → behind ≡ drop (n + 2) text → starts (codes "c") behind ≡ false → (if nat_lt most_units (length units) then fault broken.TextLiteral text else found piece.Text (n + 2)) ≡ quoted_of n units text
-unfolding quoted_of
-text_literal text content behind n units is good after unmarked =
-    let good : is_readable (take n (drop 1 text)) ≡ true = ap is_readable (sym is) ∙ good in
-    let unmarked : starts (codes "c") (drop (n + 2) text) ≡ false = ap (λ l. starts (codes "c") l) (sym after) ∙ unmarked in
-    rw (good, unmarked) refl
-
 -- what stands behind the quote that ends the content
 pub behind_is : (text rest behind : List Character) (n : ℕ) → rest ≡ drop 1 text → behind ≡ drop (n + 1) rest → behind ≡ drop (n + 2) text
 behind_is text rest behind n is after =
     let place : 1 + (n + 1) ≡ n + 2 = omega arith in
     after ∙ ap (λ l. drop (n + 1) l) is ∙ drop-drop (n + 1) 1 text ∙ ap (λ k. drop k text) place
+
+-- the literal of a content is the one that stands there
+pub char_stands : (text rest content behind : List Character) (n : ℕ) → rest ≡ drop 1 text → content_len rest ≡ Some n → content ≡ take n rest → length content ≡ n → behind ≡ drop (n + 1) rest → starts (codes "c") behind ≡ true → char_literal (length content) (units_of content) text ≡ quoted_at text
+char_stands text rest content behind n is len within long after marked =
+    let marked : starts (codes "c") (drop (n + 2) text) ≡ true = ap (λ l. starts (codes "c") l) (sym (behind_is text rest behind n is after)) ∙ marked in
+    let chosen : char_literal n (units_of (take n rest)) text ≡ quoted_of n (units_of (take n rest)) text = rw marked refl in
+    ap (λ k. char_literal k (units_of content) text) long ∙ ap (λ l. char_literal n (units_of l) text) within ∙ chosen ∙ quoted_some text rest n is len
+
+pub text_stands : (text rest content behind : List Character) (n : ℕ) → rest ≡ drop 1 text → content_len rest ≡ Some n → content ≡ take n rest → length content ≡ n → behind ≡ drop (n + 1) rest → starts (codes "c") behind ≡ false → text_literal (length content) (units_of content) text ≡ quoted_at text
+text_stands text rest content behind n is len within long after unmarked =
+    let unmarked : starts (codes "c") (drop (n + 2) text) ≡ false = ap (λ l. starts (codes "c") l) (sym (behind_is text rest behind n is after)) ∙ unmarked in
+    let chosen : text_literal n (units_of (take n rest)) text ≡ quoted_of n (units_of (take n rest)) text = rw unmarked refl in
+    ap (λ k. text_literal k (units_of content) text) long ∙ ap (λ l. text_literal n (units_of l) text) within ∙ chosen ∙ quoted_some text rest n is len

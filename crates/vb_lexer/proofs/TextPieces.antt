@@ -17,7 +17,7 @@ use Rattle.vb_lexer.specs.declared.characters.Class.{Class}
 use Rattle.vb_lexer.specs.declared.characters.Class.TheVariants as class
 use Rattle.vb_lexer.specs.Characters.{Character, is_char, class_of, is_remark, run_len, is_space, is_readable}
 use Rattle.vb_lexer.specs.Tables.{keywords, symbols}
-use Rattle.vb_lexer.specs.Tokens.{char_at, found, fault, longest_name, name_len, lowered, is_rem, keyword_in, keyword_or_name, word_of, connected_of, begins_name, bracketed_of, digits_len, base_number, value_from, literal_of, suffixes, suffix_in, suffix_type, suffix_len, starts, integer_or_fault, number_of, number_at, symbol_in, symbol_or_fault, symbol_at, ampersand_at, content_len, quoted_of, quoted_or_fault, quoted_at, units_of}
+use Rattle.vb_lexer.specs.Tokens.{char_at, found, fault, longest_name, name_len, lowered, is_rem, keyword_in, keyword_or_name, word_of, connected_of, begins_name, bracketed_of, digits_len, base_number, value_from, literal_of, suffixes, suffix_in, suffix_type, suffix_len, starts, integer_or_fault, number_of, number_at, symbol_in, symbol_or_fault, symbol_at, ampersand_at, content_len, char_literal, text_literal, quoted_of, quoted_or_fault, quoted_at, units_of}
 use Rattle.vb_lexer.specs.Pieces.{ends_line, is_rest, behind_space, is_word_at, space_of, region_start, region_named, region_start_of, region_end_of, region_at, piece_of, piece_at}
 use Rattle.vb_lexer.proofs.Bounds.{piece_bounds}
 
@@ -123,14 +123,20 @@ content_short m text e = λ is.
     let same : m ≡ m + 2 - 2 = omega arith in
     subst (λ k. length (units_of (take k (drop 1 text))) ≤ most_units) same (ltb-false most_units (length (units_of (take m (drop 1 text)))) e)
 
+char_short : (m : ℕ) (units : List ℕ) (text : List Character) → Plain (char_literal m units text)
+unfolding char_literal
+char_short m units text =
+    plain_if (nat_lt 1 (length units)) _ _ refl (plain_if (not (is_readable (take m (drop 1 text)))) _ _ refl (plain_if (length units == 1) (found (piece.Char (slice_index units 0)) (m + 3)) (fault broken.TextLiteral text) refl refl))
+
+literal_short : (m : ℕ) (text : List Character) → Short (text_literal m (units_of (take m (drop 1 text))) text) text
+unfolding text_literal
+literal_short m text =
+    short_if (nat_lt most_units (length (units_of (take m (drop 1 text))))) (fault broken.TextLiteral text) _ text (λ u is. cc)
+    (λ u. short_if (not (is_readable (take m (drop 1 text)))) (fault broken.NotUtf8 text) _ text (λ e is. cc) (λ e. content_short m text u))
+
 quoted_short : (m : ℕ) (text : List Character) → Short (quoted_of m (units_of (take m (drop 1 text))) text) text
-unfolding quoted_of
 quoted_short m text =
-    let units = units_of (take m (drop 1 text)) in
-    short_if (not (is_readable (take m (drop 1 text)))) (fault broken.NotUtf8 text) _ text (λ e is. cc)
-    (λ e. short_if (starts (codes "c") (drop (m + 2) text)) _ _ text
-    (λ c. short_if (length units == 1) (found (piece.Char (slice_index units 0)) (m + 3)) (fault broken.TextLiteral text) text (λ u is. cc) (λ u is. cc))
-    (λ c. short_if (nat_lt most_units (length units)) (fault broken.TextLiteral text) _ text (λ u is. cc) (λ u. content_short m text u)))
+    short_if (starts (codes "c") (drop (m + 2) text)) _ _ text (λ c is. cc (char_short m (units_of (take m (drop 1 text))) text)) (λ c. literal_short m text)
 
 quoted_by : (m : Option ℕ) (text : List Character) → Short (quoted_or_fault m text) text
 quoted_by None text = λ e. cc

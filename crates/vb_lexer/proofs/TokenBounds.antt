@@ -1,5 +1,5 @@
 -- Each token takes a character at least, and none past the end of the text.
-use Rattle.std.proofs.Common.{◌≡◌, ℕ, suc, ◌+◌, ◌<◌, ◌≤◌, Bool, true, false, ◌&&◌, ◌==◌, not, nat_lt, List, [], ◌∷◌, length, take, drop, Option, None, Some, refl, sym, ◌∙◌, subst, arith, if◌then◌else◌, ltb-false, length-drop}
+use Rattle.std.proofs.Common.{◌≡◌, ℕ, suc, ◌+◌, ◌<◌, ◌≤◌, Bool, true, false, ◌&&◌, ◌==◌, not, nat_lt, List, [], ◌∷◌, length, slice_index, take, drop, Option, None, Some, refl, sym, ◌∙◌, subst, arith, if◌then◌else◌, ltb-false, length-drop}
 use Rattle.std.proofs.lemmas.Bool.{and_parts, eqb-false}
 use Rattle.std.proofs.lemmas.List.{length-map, length-take}
 use Rattle.std.proofs.lemmas.Slice.Eq.{bytes_eq-Decides}
@@ -25,7 +25,7 @@ use Rattle.vb_lexer.specs.declared.characters.Class.{Class}
 use Rattle.vb_lexer.specs.declared.characters.Class.TheVariants as class
 use Rattle.vb_lexer.specs.Characters.{Character, is_char, is_line_end, is_line_end_code, is_in_line, is_name_part, is_name_category, is_letter_category, is_space_category, is_connector_category, is_remark, is_decimal_digit, class_of, class_of_code, class_of_category, run_len, readable, is_readable}
 use Rattle.vb_lexer.specs.Tables.{symbols}
-use Rattle.vb_lexer.specs.Tokens.{char_at, found, fault, longest_name, name_len, lowered, is_rem, word_of, connected_of, bracketed_of, begins_name, is_digit, digits_len, base_number, value_from, literal_of, suffixes, suffix_in, suffix_len, suffix_type, starts, integer_or_fault, number_of, number_at, symbol_in, symbol_or_fault, symbol_at, ampersand_at, content_len, plus_some, quoted_of, quoted_or_fault, units_of}
+use Rattle.vb_lexer.specs.Tokens.{char_at, found, fault, longest_name, name_len, lowered, is_rem, word_of, connected_of, bracketed_of, begins_name, is_digit, digits_len, base_number, value_from, literal_of, suffixes, suffix_in, suffix_len, suffix_type, starts, integer_or_fault, number_of, number_at, symbol_in, symbol_or_fault, symbol_at, ampersand_at, content_len, plus_some, char_literal, text_literal, quoted_of, quoted_or_fault, units_of}
 use Rattle.vb_lexer.specs.Pieces.{is_word_at}
 use Rattle.vb_lexer.proofs.Runs.{at_within}
 use Rattle.vb_lexer.proofs.SymbolTables.{symbol_stands}
@@ -262,18 +262,25 @@ content_below (c ∷ d ∷ cs) =
 pub content_within : (text : List Character) (m : ℕ) → content_len text ≡ Some m → m < length text
 content_within text m e = subst (λ x. Below x (length text)) e (content_below text)
 
+char_within : (m : ℕ) (units : List ℕ) (text : List Character) → m + 3 ≤ length text → 0 < length text → is_in_line (char_at text 0) ≡ true → Within (char_literal m units text) text
+unfolding char_literal
+char_within m units text closed some line =
+    within_if (nat_lt 1 (length units)) (fault broken.TextLiteral text) _ text (λ e. fault_within broken.TextLiteral text some line)
+    (λ e. within_if (not (is_readable (take m (drop 1 text)))) (fault broken.NotUtf8 text) _ text (λ r. fault_within broken.NotUtf8 text some line)
+    (λ r. within_if (length units == 1) (found (piece.Char (slice_index units 0)) (m + 3)) (fault broken.TextLiteral text) text (λ u. (omega arith, closed)) (λ u. fault_within broken.TextLiteral text some line)))
+
+text_within : (m : ℕ) (units : List ℕ) (text : List Character) → m + 2 ≤ length text → 0 < length text → is_in_line (char_at text 0) ≡ true → Within (text_literal m units text) text
+unfolding text_literal
+text_within m units text closed some line =
+    within_if (nat_lt most_units (length units)) (fault broken.TextLiteral text) _ text (λ e. fault_within broken.TextLiteral text some line)
+    (λ e. within_if (not (is_readable (take m (drop 1 text)))) (fault broken.NotUtf8 text) _ text (λ r. fault_within broken.NotUtf8 text some line)
+    (λ r. (omega arith, closed)))
+
 quoted_of_within : (m : ℕ) (units : List ℕ) (text : List Character) → m < length (drop 1 text) → 0 < length text → is_in_line (char_at text 0) ≡ true → Within (quoted_of m units text) text
-unfolding quoted_of
 quoted_of_within m units text closed some line =
-    let closed_at = length-drop 1 text in
-    within_if (not (is_readable (take m (drop 1 text)))) (fault broken.NotUtf8 text) _ text (λ e. fault_within broken.NotUtf8 text some line)
-    (λ e. within_if (starts (codes "c") (drop (m + 2) text)) _ _ text
-    (λ c.
-    let mark = starts_le (codes "c") (drop (m + 2) text) c in
-    within_if (length units == 1) _ _ text
-    (λ u. (omega arith, omega (arith, mark, closed, closed_at, length-drop (m + 2) text))) (λ u. fault_within broken.TextLiteral text some line))
-    (λ c. within_if (nat_lt most_units (length units)) _ _ text (λ u. fault_within broken.TextLiteral text some line)
-    (λ u. (omega arith, omega (arith, closed, closed_at)))))
+    within_if (starts (codes "c") (drop (m + 2) text)) _ _ text
+    (λ c. char_within m units text (omega (arith, starts_le (codes "c") (drop (m + 2) text) c, closed, length-drop 1 text, length-drop (m + 2) text)) some line)
+    (λ c. text_within m units text (omega (arith, closed, length-drop 1 text)) some line)
 
 pub quoted_by : (m : Option ℕ) (text : List Character) → content_len (drop 1 text) ≡ m → 0 < length text → is_in_line (char_at text 0) ≡ true → Within (quoted_or_fault m text) text
 quoted_by None text e some line = fault_within broken.TextLiteral text some line

@@ -253,13 +253,23 @@ units_of (None ∷ cs) = units_of cs
 units_of (Some c ∷ []) = encode_utf16 c
 units_of (Some c ∷ d ∷ cs) = if c == 34 then 34 ∷ units_of cs else encode_utf16 c ++ units_of (d ∷ cs)
 
+-- a character literal of m characters with these units; bytes that are no UTF-8 have none, and are told where there are no several
+unfoldable pub char_literal : ℕ → List ℕ → List Character → Found
+char_literal m units text =
+    if nat_lt 1 (length units) then fault broken.TextLiteral text
+    else if not (is_readable (take m (drop 1 text))) then fault broken.NotUtf8 text
+    else if length units == 1 then found (piece.Char (slice_index units 0)) (m + 3) else fault broken.TextLiteral text
+
+-- a string literal of m characters with these units; bytes that are no UTF-8 are told where it isn't too long
+unfoldable pub text_literal : ℕ → List ℕ → List Character → Found
+text_literal m units text =
+    if nat_lt most_units (length units) then fault broken.TextLiteral text
+    else if not (is_readable (take m (drop 1 text))) then fault broken.NotUtf8 text
+    else found piece.Text (m + 2)
+
 -- a literal whose content is m characters with these units
-unfoldable pub quoted_of : ℕ → List ℕ → List Character → Found
-quoted_of m units text =
-    if not (is_readable (take m (drop 1 text))) then fault broken.NotUtf8 text
-    else if starts (codes "c") (drop (m + 2) text)
-    then (if length units == 1 then found (piece.Char (slice_index units 0)) (m + 3) else fault broken.TextLiteral text)
-    else if nat_lt most_units (length units) then fault broken.TextLiteral text else found piece.Text (m + 2)
+abbrev pub quoted_of : ℕ → List ℕ → List Character → Found
+quoted_of m units text = if starts (codes "c") (drop (m + 2) text) then char_literal m units text else text_literal m units text
 
 abbrev pub quoted_or_fault : Option ℕ → List Character → Found
 quoted_or_fault None text = fault broken.TextLiteral text

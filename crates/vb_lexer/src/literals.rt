@@ -1,7 +1,6 @@
 // String and character literals (Visual Basic Language Specification 11.0, 2.4.4 and 2.4.5).
-ghost use Rattle.std.specs.Prelude.{◌≡◌, ◌<◌, ◌≤◌, [], ◌∷◌, ◌++◌, ◌==◌, nat_lt, if◌then◌else◌, length, slice_index, IfOk, IfSome, OnOk};
+ghost use Rattle.std.specs.Prelude.{◌≡◌, ◌<◌, [], ◌∷◌, ◌++◌, ◌≤◌, if◌then◌else◌, length, take, drop, slice_index, IfOk, IfSome, OnOk};
 ghost use Rattle.std.specs.Char.Escape.{encode_utf16};
-ghost use Rattle.vb_text.specs.Units.{most_units};
 ghost use Rattle.vb_lexer.specs.Tokens as spec;
 
 use crate::characters::{behind, char_at, is_at, is_line_end, is_readable};
@@ -107,25 +106,36 @@ fn lead_unit(c: char) -> u16
     c.encode_utf16(&mut room)[0]
 }
 
-// A literal of this content, if that is one unit.
-fn char_of(content: &[Option<char>], len: usize, text: &[Option<char>]) -> Found
-    ensures { result ≡ (let units = spec.units_of content.now in if length units == 1 then spec.found (Piece.Char (slice_index units 0)) len else spec.fault Fault.TextLiteral text.now) }
+// A character literal of this content, if that is one unit. Bytes that are no UTF-8 have no unit.
+#[tactic(auto, unfolding(crate::specs::Tokens::char_literal))]
+fn char_of(content: &[Option<char>], text: &[Option<char>]) -> Found
+    requires { content.now ≡ take (length content.now) (drop 1 text.now) }
+    ensures { result ≡ spec.char_literal (length content.now) (spec.units_of content.now) text.now }
 {
-    if units_len(content) == 1 {
-        make_found(Piece::Char(first_unit(content)), len)
+    let count = units_len(content);
+    if count > 1 {
+        broken(Fault::TextLiteral, text)
+    } else if !is_readable(content) {
+        broken(Fault::NotUtf8, text)
+    } else if count == 1 {
+        make_found(Piece::Char(first_unit(content)), content.len() + 3)
     } else {
         broken(Fault::TextLiteral, text)
     }
 }
 
-// A literal of this content, if that is no longer than a text may be.
-fn text_of(content: &[Option<char>], len: usize, text: &[Option<char>]) -> Found
-    ensures { result ≡ (if nat_lt most_units (length (spec.units_of content.now)) then spec.fault Fault.TextLiteral text.now else spec.found Piece.Text len) }
+// A string literal of this content, if that is no longer than a text may be.
+#[tactic(auto, unfolding(crate::specs::Tokens::text_literal))]
+fn text_of(content: &[Option<char>], text: &[Option<char>]) -> Found
+    requires { content.now ≡ take (length content.now) (drop 1 text.now) }
+    ensures { result ≡ spec.text_literal (length content.now) (spec.units_of content.now) text.now }
 {
     if units_len(content) > MOST_UNITS {
         broken(Fault::TextLiteral, text)
+    } else if !is_readable(content) {
+        broken(Fault::NotUtf8, text)
     } else {
-        make_found(Piece::Text, len)
+        make_found(Piece::Text, content.len() + 2)
     }
 }
 
@@ -138,11 +148,9 @@ pub fn quoted_at(text: &[Option<char>]) -> Found
         return broken(Fault::TextLiteral, text);
     };
     let content = &rest[..n];
-    if !is_readable(content) {
-        broken(Fault::NotUtf8, text)
-    } else if starts(b"c", &rest[n + 1..]) {
-        char_of(content, n + 3, text)
+    if starts(b"c", &rest[n + 1..]) {
+        char_of(content, text)
     } else {
-        text_of(content, n + 2, text)
+        text_of(content, text)
     }
 }

@@ -1,27 +1,19 @@
-use Rattle.std.proofs.Common.{◌∙◌, ◌+◌, ap, sym, take}
+use Rattle.std.proofs.Common.{◌∙◌, ◌<◌, ◌+◌, length, sym, take, refl, subst, length-take-le, arith}
+use Rattle.std.specs.Prelude.{IfSome}
 use Rattle.std.proofs.lemmas.List.{take_rest}
-use Rattle.vb_lexer.proofs.Quotes.{quoted_some, unreadable_is, char_literal, text_literal, behind_is}
+use Rattle.vb_lexer.proofs.Quotes.{char_stands, text_stands}
 use Rattle.vb_lexer.proofs.literals.quoted_at.Goals as goal
-
-pub returns-then-not-is_readable : goal.returns-then-not-is_readable
-returns-then-not-is_readable c =
-    let rest = c.behind-rest.ensures in
-    c.broken-then-not-is_readable.ensures
-    ∙ unreadable_is c.args.text.now _ c.in-Some.n _ (ap (λ l. take c.in-Some.n l) rest) (sym c.is_readable.ensures ∙ c.if-not-is_readable.true)
-    ∙ quoted_some c.args.text.now _ c.in-Some.n rest (sym c.content_len.ensures.len ∙ c.in-Some.is)
 
 pub returns-then-starts : goal.returns-then-starts
 returns-then-starts c =
-    let rest = c.behind-rest.ensures in
-    let after = take_rest c.behind-rest.result.now (c.in-Some.n + 1) in
+    let inside : c.in-Some.n < length c.behind-rest.result.now = subst (λ o. IfSome o (λ n. n < length c.behind-rest.result.now)) c.in-Some.is c.content_len.ensures.within in
     c.char_of.ensures
-    ∙ char_literal c.args.text.now _ _ c.in-Some.n _ (ap (λ l. take c.in-Some.n l) rest) (sym c.is_readable.ensures ∙ c.if-not-is_readable.false) (behind_is c.args.text.now _ _ c.in-Some.n rest after) (sym c.starts.ensures.found ∙ c.if-starts.true)
-    ∙ quoted_some c.args.text.now _ c.in-Some.n rest (sym c.content_len.ensures.len ∙ c.in-Some.is)
+    ∙ char_stands c.args.text.now c.behind-rest.result.now (take c.in-Some.n c.behind-rest.result.now) _ c.in-Some.n c.behind-rest.ensures (sym c.content_len.ensures.len ∙ c.in-Some.is) refl
+    (length-take-le c.in-Some.n c.behind-rest.result.now (omega arith)) (take_rest c.behind-rest.result.now (c.in-Some.n + 1)) (sym c.starts.ensures.found ∙ c.if-starts.true)
 
 pub returns-else-starts : goal.returns-else-starts
 returns-else-starts c =
-    let rest = c.behind-rest.ensures in
-    let after = take_rest c.behind-rest.result.now (c.in-Some.n + 1) in
+    let inside : c.in-Some.n < length c.behind-rest.result.now = subst (λ o. IfSome o (λ n. n < length c.behind-rest.result.now)) c.in-Some.is c.content_len.ensures.within in
     c.text_of.ensures
-    ∙ text_literal c.args.text.now _ _ c.in-Some.n _ (ap (λ l. take c.in-Some.n l) rest) (sym c.is_readable.ensures ∙ c.if-not-is_readable.false) (behind_is c.args.text.now _ _ c.in-Some.n rest after) (sym c.starts.ensures.found ∙ c.if-starts.false)
-    ∙ quoted_some c.args.text.now _ c.in-Some.n rest (sym c.content_len.ensures.len ∙ c.in-Some.is)
+    ∙ text_stands c.args.text.now c.behind-rest.result.now (take c.in-Some.n c.behind-rest.result.now) _ c.in-Some.n c.behind-rest.ensures (sym c.content_len.ensures.len ∙ c.in-Some.is) refl
+    (length-take-le c.in-Some.n c.behind-rest.result.now (omega arith)) (take_rest c.behind-rest.result.now (c.in-Some.n + 1)) (sym c.starts.ensures.found ∙ c.if-starts.false)
