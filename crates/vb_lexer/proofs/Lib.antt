@@ -16,3 +16,6 @@ pub mod Quotes
 pub mod TextPieces
 pub mod Files
 pub mod Unique
+pub mod Spelling
+pub mod Beginnings
+pub mod Longest

@@ -147,13 +147,13 @@ content_closed c [] inside is single = rw is refl
 content_closed c (None ∷ cs) inside is single = rw (inside, is) refl
 content_closed c (Some d ∷ cs) inside is single = rw (inside, is, single) refl
 
-content_doubled : (c : Character) (cs : List Character) → is_line_end c ≡ false → is_char c 34 ≡ true → is_char (char_at cs 0) 34 ≡ true → content_len (c ∷ cs) ≡ plus_some 2 (content_len (drop 1 cs))
+pub content_doubled : (c : Character) (cs : List Character) → is_line_end c ≡ false → is_char c 34 ≡ true → is_char (char_at cs 0) 34 ≡ true → content_len (c ∷ cs) ≡ plus_some 2 (content_len (drop 1 cs))
 unfolding content_len
 content_doubled c [] inside is double = cc
 content_doubled c (None ∷ cs) inside is double = cc
 content_doubled c (Some d ∷ cs) inside is double = rw (inside, is, double) refl
 
-content_other : (c : Character) (cs : List Character) → is_line_end c ≡ false → is_char c 34 ≡ false → content_len (c ∷ cs) ≡ plus_some 1 (content_len cs)
+pub content_other : (c : Character) (cs : List Character) → is_line_end c ≡ false → is_char c 34 ≡ false → content_len (c ∷ cs) ≡ plus_some 1 (content_len cs)
 unfolding content_len
 content_other c [] inside other = rw other refl
 content_other c (d ∷ cs) inside other = rw (inside, other) refl

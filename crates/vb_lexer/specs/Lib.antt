@@ -2,6 +2,7 @@ pub mod Characters
 pub mod Tables
 pub mod Tokens
 pub mod Pieces
+pub mod Longest
 pub mod Lines
 pub mod Reader
 pub mod Regions

@@ -1,10 +1,12 @@
 // What callers' proofs may hold of the lines of a file.
-ghost use Rattle.std.specs.Prelude.{◌≡◌, ℕ, List};
+ghost use Rattle.std.specs.Prelude.{◌≡◌, ◌∷◌, ℕ, true, List};
 ghost use Rattle.vb_text.specs.Names.{AreApart, Extends};
 ghost use Rattle.vb_syntax.specs.declared.tokens.Line.{Line};
 ghost use Rattle.vb_lexer.specs.Characters.{Character};
+ghost use Rattle.vb_lexer.specs.declared.piece.Before.{Before};
 ghost use Rattle.vb_lexer.specs.Pieces.{Part, Falls, file_front, spelled};
-ghost use Rattle.vb_lexer.specs.Lines.{Lexed, LexedFrom, Breaks};
+ghost use Rattle.vb_lexer.specs.Lines.{Lexed, LexedFrom, Breaks, is_token};
+ghost use Rattle.vb_lexer.specs.Longest.{IsLongest};
 
 /// A law for callers' proofs: a file is its logical lines in one way, so bytes have at most one list of lines with the
 /// names of a table. It does nothing.
@@ -35,4 +37,10 @@ pub fn pieces_spell()
 /// A law for callers' proofs: the lines of a file stay its lines when the table of names grows. It does nothing.
 pub fn lines_stay()
     ensures { (table later : List (List ℕ)) (file : ℕ) (bytes : List ℕ) (lines : List Line) → Lexed table file bytes lines → Extends later table → Lexed later file bytes lines }
+{}
+
+/// A law for callers' proofs: where a text falls into pieces, the first of them, if it is a token, is spelled as its sort
+/// is, and no longer front of the text is a token of any sort; so is each further one in what stands behind. It does nothing.
+pub fn longest_token()
+    ensures { (before : Before) (text : List Character) (first : Part) (others : List Part) → Falls before text (first ∷ others) → is_token first.piece ≡ true → IsLongest before.dot text first }
 {}

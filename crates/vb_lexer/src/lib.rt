@@ -17,7 +17,9 @@ mod symbols;
 mod token;
 
 pub use error::LexErr;
-pub use laws::{lines_or_refusal, lines_stay, one_reading, one_refusal, one_table, pieces_spell};
+pub use laws::{
+    lines_or_refusal, lines_stay, longest_token, one_reading, one_refusal, one_table, pieces_spell,
+};
 pub use lines::lex;
 pub use symbols::longest_symbol;
 
