@@ -18,7 +18,9 @@ use Rattle.vb_lexer.specs.declared.piece.Base.{Base}
 use Rattle.vb_lexer.specs.declared.piece.Base.TheVariants.{Decimal, Hexadecimal, Octal}
 use Rattle.vb_lexer.specs.declared.characters.Class.{Class}
 use Rattle.vb_lexer.specs.declared.characters.Class.TheVariants as class
-use Rattle.vb_lexer.specs.Characters.{Character, is_char, is_line_end, is_in_line, is_name_part, is_remark, class_of, run_len, readable, is_readable}
+use Rattle.vb_lexer.specs.declared.characters.Run.{Run}
+use Rattle.vb_lexer.specs.declared.characters.Run.TheVariants as run
+use Rattle.vb_lexer.specs.Characters.{Character, is_char, is_line_end, is_space, is_in_line, is_name_part, is_remark, class_of, run_len, readable, is_readable}
 use Rattle.vb_lexer.specs.Tables.{keywords, symbols}
 
 -- the character at a place
@@ -113,6 +115,14 @@ is_digit_code Octal c = nat_le 48 c && nat_le c 55
 abbrev pub is_digit : Base → Character → Bool
 is_digit base None = false
 is_digit base (Some c) = is_digit_code base c
+
+-- the character is of the run
+abbrev pub is_in_run : Run → Character → Bool
+is_in_run run.Space = is_space
+is_in_run run.Name = is_name_part
+is_in_run run.Line = is_in_line
+is_in_run run.Remark = is_remark
+is_in_run (run.Digits base) = is_digit base
 
 abbrev pub digit_code_value : ℕ → ℕ
 digit_code_value c = if nat_le c 57 then c - 48 else if nat_le c 70 then c - 55 else c - 87

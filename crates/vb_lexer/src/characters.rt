@@ -6,6 +6,7 @@ ghost use Rattle.vb_lexer.specs.Tokens as tokens;
 ghost use Rattle.vb_lexer.specs.Pieces as pieces;
 ghost use Rattle.vb_lexer.specs.Characters.{Decodes, run_len};
 
+use crate::piece::Base;
 use bstr::decode_utf8;
 use std::alloc::{AllocError, Global};
 use unicode::properties::GeneralCategory;
@@ -26,6 +27,21 @@ pub enum Class {
     NumberSign,
     Ampersand,
     Other,
+}
+
+/// Characters that stand one behind the other.
+#[derive(Clone, Copy, Debug, PartialEq, Eq)]
+pub enum Run {
+    /// White space.
+    Space,
+    /// Characters of a name.
+    Name,
+    /// What is left of a line.
+    Line,
+    /// What a comment goes on with.
+    Remark,
+    /// Digits of the base.
+    Digits(Base),
 }
 
 /// The characters of a file's bytes, each with `None` where bytes are no UTF-8.
@@ -115,52 +131,46 @@ pub fn behind(text: &[Option<char>], count: usize) -> &[Option<char>]
 fn is_letter_category(category: GeneralCategory) -> bool
     ensures { result ≡ spec.is_letter_category category }
 {
-    match category {
+    matches!(
+        category,
         GeneralCategory::UppercaseLetter
-        | GeneralCategory::LowercaseLetter
-        | GeneralCategory::TitlecaseLetter
-        | GeneralCategory::ModifierLetter
-        | GeneralCategory::OtherLetter
-        | GeneralCategory::LetterNumber => true,
-        _ => false,
-    }
+            | GeneralCategory::LowercaseLetter
+            | GeneralCategory::TitlecaseLetter
+            | GeneralCategory::ModifierLetter
+            | GeneralCategory::OtherLetter
+            | GeneralCategory::LetterNumber
+    )
 }
 
 fn is_name_category(category: GeneralCategory) -> bool
     ensures { result ≡ spec.is_name_category category }
 {
-    match category {
+    matches!(
+        category,
         GeneralCategory::UppercaseLetter
-        | GeneralCategory::LowercaseLetter
-        | GeneralCategory::TitlecaseLetter
-        | GeneralCategory::ModifierLetter
-        | GeneralCategory::OtherLetter
-        | GeneralCategory::LetterNumber
-        | GeneralCategory::DecimalNumber
-        | GeneralCategory::ConnectorPunctuation
-        | GeneralCategory::NonspacingMark
-        | GeneralCategory::SpacingMark
-        | GeneralCategory::Format => true,
-        _ => false,
-    }
+            | GeneralCategory::LowercaseLetter
+            | GeneralCategory::TitlecaseLetter
+            | GeneralCategory::ModifierLetter
+            | GeneralCategory::OtherLetter
+            | GeneralCategory::LetterNumber
+            | GeneralCategory::DecimalNumber
+            | GeneralCategory::ConnectorPunctuation
+            | GeneralCategory::NonspacingMark
+            | GeneralCategory::SpacingMark
+            | GeneralCategory::Format
+    )
 }
 
 fn is_connector_category(category: GeneralCategory) -> bool
     ensures { result ≡ spec.is_connector_category category }
 {
-    match category {
-        GeneralCategory::ConnectorPunctuation => true,
-        _ => false,
-    }
+    matches!(category, GeneralCategory::ConnectorPunctuation)
 }
 
 fn is_space_category(category: GeneralCategory) -> bool
     ensures { result ≡ spec.is_space_category category }
 {
-    match category {
-        GeneralCategory::SpaceSeparator => true,
-        _ => false,
-    }
+    matches!(category, GeneralCategory::SpaceSeparator)
 }
 
 fn is_decimal_digit(c: char) -> bool
@@ -252,26 +262,46 @@ pub fn class_of(character: Option<char>) -> Class
     }
 }
 
-/// How many characters of white space are at the front.
-pub fn space_len(text: &[Option<char>]) -> usize
-    ensures count { result ≡ run_len spec.is_space text.now }
-    ensures within { result ≤ length text.now }
+fn is_digit_code(base: Base, c: char) -> bool
+    ensures { result ≡ tokens.is_digit_code base c }
 {
-    for (i, character) in text.iter().enumerate() {
-        if !is_space(*character) {
-            return i;
+    match base {
+        Base::Decimal => '0' <= c && c <= '9',
+        Base::Hexadecimal => {
+            ('0' <= c && c <= '9') || ('A' <= c && c <= 'F') || ('a' <= c && c <= 'f')
         }
+        Base::Octal => '0' <= c && c <= '7',
     }
-    text.len()
 }
 
-/// How many characters of a name are at the front.
-pub fn name_len(text: &[Option<char>]) -> usize
-    ensures count { result ≡ run_len spec.is_name_part text.now }
+fn is_digit(base: Base, character: Option<char>) -> bool
+    ensures { result ≡ tokens.is_digit base character }
+{
+    match character {
+        Some(c) => is_digit_code(base, c),
+        None => false,
+    }
+}
+
+fn is_in_run(run: Run, character: Option<char>) -> bool
+    ensures { result ≡ tokens.is_in_run run character }
+{
+    match run {
+        Run::Space => is_space(character),
+        Run::Name => is_name_part(character),
+        Run::Line => is_in_line(character),
+        Run::Remark => is_remark(character),
+        Run::Digits(base) => is_digit(base, character),
+    }
+}
+
+/// How many characters at the front are of the run.
+pub fn run_len(run: Run, text: &[Option<char>]) -> usize
+    ensures count { result ≡ spec.run_len (tokens.is_in_run run) text.now }
     ensures within { result ≤ length text.now }
 {
     for (i, character) in text.iter().enumerate() {
-        if !is_name_part(*character) {
+        if !is_in_run(run, *character) {
             return i;
         }
     }
@@ -284,34 +314,8 @@ pub fn name_at(text: &[Option<char>]) -> &[Option<char>]
     ensures name { result.now ≡ take (run_len spec.is_name_part text.now) text.now }
     ensures readable { spec.is_readable result.now ≡ true }
 {
-    let (name, _) = text.split_at(name_len(text));
+    let (name, _) = text.split_at(run_len(Run::Name, text));
     name
-}
-
-/// How many characters of the line are left.
-pub fn line_len(text: &[Option<char>]) -> usize
-    ensures count { result ≡ run_len spec.is_in_line text.now }
-    ensures within { result ≤ length text.now }
-{
-    for (i, character) in text.iter().enumerate() {
-        if !is_in_line(*character) {
-            return i;
-        }
-    }
-    text.len()
-}
-
-/// How many characters a comment goes on with.
-pub fn remark_len(text: &[Option<char>]) -> usize
-    ensures count { result ≡ run_len spec.is_remark text.now }
-    ensures within { result ≤ length text.now }
-{
-    for (i, character) in text.iter().enumerate() {
-        if !is_remark(*character) {
-            return i;
-        }
-    }
-    text.len()
 }
 
 /// Whether no bytes among these are other than UTF-8.

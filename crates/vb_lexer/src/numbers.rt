@@ -1,10 +1,9 @@
 // Integer literals (Visual Basic Language Specification 11.0, 2.4.2).
 ghost use Rattle.std.specs.Prelude.{◌≡◌, ◌<◌, ◌≤◌, ◌^◌, true, nat_lt, if◌then◌else◌, length, Some, None};
-ghost use Rattle.vb_lexer.specs.Characters.{run_len};
 ghost use Rattle.vb_lexer.specs.Tokens as spec;
 ghost use Rattle.vb_lexer.specs.Tokens.{suffixes, suffix_in, suffix_type, suffix_len, value_from};
 
-use crate::characters::char_at;
+use crate::characters::{Run, char_at, run_len};
 use crate::piece::{Base, Fault, Found, Piece, broken, make_found};
 use vb_syntax::{IntegerLiteral, IntegerType};
 
@@ -30,40 +29,6 @@ fn base_number(base: Base) -> u64
         Base::Hexadecimal => 16,
         Base::Octal => 8,
     }
-}
-
-fn is_digit(base: Base, character: Option<char>) -> bool
-    ensures { result ≡ spec.is_digit base character }
-{
-    match character {
-        Some(c) => is_digit_code(base, c),
-        None => false,
-    }
-}
-
-fn is_digit_code(base: Base, c: char) -> bool
-    ensures { result ≡ spec.is_digit_code base c }
-{
-    match base {
-        Base::Decimal => '0' <= c && c <= '9',
-        Base::Hexadecimal => {
-            ('0' <= c && c <= '9') || ('A' <= c && c <= 'F') || ('a' <= c && c <= 'f')
-        }
-        Base::Octal => '0' <= c && c <= '7',
-    }
-}
-
-/// How many digits of the base are at the front.
-pub fn digits_len(base: Base, text: &[Option<char>]) -> usize
-    ensures count { result ≡ run_len (spec.is_digit base) text.now }
-    ensures within { result ≤ length text.now }
-{
-    for (i, character) in text.iter().enumerate() {
-        if !is_digit(base, *character) {
-            return i;
-        }
-    }
-    text.len()
 }
 
 fn digit_value(character: Option<char>) -> u64
@@ -226,7 +191,7 @@ pub fn number_at(base: Base, mark: usize, text: &[Option<char>]) -> Found
     ensures { result ≡ spec.number_at base mark text.now }
 {
     let behind = &text[mark..];
-    let n = digits_len(base, behind);
+    let n = run_len(Run::Digits(base), behind);
     if n == 0 {
         return broken(Fault::NumberLiteral, text);
     }

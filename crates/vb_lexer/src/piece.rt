@@ -3,7 +3,7 @@ ghost use Rattle.std.specs.Prelude.{◌≡◌};
 ghost use Rattle.vb_lexer.specs.Tokens as tokens;
 ghost use Rattle.vb_lexer.specs.Lines.{fault_rule};
 
-use crate::characters::line_len;
+use crate::characters::{Run, run_len};
 use vb_diag::Rule;
 use vb_syntax::{IntegerLiteral, Keyword, Symbol};
 
@@ -89,7 +89,7 @@ pub fn make_found(piece: Piece, length: usize) -> Found
 pub fn broken(fault: Fault, text: &[Option<char>]) -> Found
     ensures { result ≡ tokens.fault fault text.now }
 {
-    make_found(Piece::Fault(fault), line_len(text))
+    make_found(Piece::Fault(fault), run_len(Run::Line, text))
 }
 
 /// The rule of the table.

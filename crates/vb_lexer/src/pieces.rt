@@ -5,8 +5,7 @@ ghost use Rattle.vb_lexer.specs.Tokens as tokens;
 ghost use Rattle.vb_lexer.specs.Pieces as spec;
 
 use crate::characters::{
-    Class, behind, char_at, class_of, ends_line, is_at, is_line_end, name_at, name_len, remark_len,
-    space_len,
+    Class, Run, behind, char_at, class_of, ends_line, is_at, is_line_end, name_at, run_len,
 };
 use crate::keywords::{is_word, keyword_of};
 use crate::literals::quoted_at;
@@ -33,14 +32,17 @@ fn keyword_or_name(keyword: Option<Keyword>) -> Piece
 fn word_at(dot: bool, text: &[Option<char>]) -> Found
     ensures { result ≡ tokens.word_at dot text.now }
 {
-    let len = name_len(text);
+    let len = run_len(Run::Name, text);
     let word = name_at(text);
     if len > LONGEST_NAME {
         broken(Fault::LongName, text)
     } else if dot {
         make_found(Piece::Name, len)
     } else if is_word(word, b"rem") {
-        make_found(Piece::Comment, len + remark_len(behind(text, len)))
+        make_found(
+            Piece::Comment,
+            len + run_len(Run::Remark, behind(text, len)),
+        )
     } else {
         make_found(keyword_or_name(keyword_of(word)), len)
     }
@@ -51,7 +53,7 @@ fn word_at(dot: bool, text: &[Option<char>]) -> Found
 fn connected_at(text: &[Option<char>]) -> Found
     ensures { result ≡ tokens.connected_at text.now }
 {
-    let len = name_len(text);
+    let len = run_len(Run::Name, text);
     if len < 2 {
         let fault = if is_at(text, 0, '_') {
             Fault::Underscore
@@ -82,7 +84,7 @@ fn begins_name(class: Class, len: usize) -> bool
 fn bracketed_at(text: &[Option<char>]) -> Found
     ensures { result ≡ tokens.bracketed_at text.now }
 {
-    let len = name_len(behind(text, 1));
+    let len = run_len(Run::Name, behind(text, 1));
     let begins = begins_name(class_of(char_at(text, 1)), len);
     if !(begins && is_at(text, len + 1, ']')) {
         broken(Fault::BracketedName, text)
@@ -150,7 +152,7 @@ fn space_at(text: &[Option<char>]) -> Found
     if !is_at(text, 1, '_') {
         return make_found(Piece::Space, 1);
     }
-    let len = space_len(behind(text, 2));
+    let len = run_len(Run::Space, behind(text, 2));
     let rest = behind(text, len + 2);
     if ends_line(rest) {
         make_found(Piece::Continuation, len + 2 + line_end_len(rest))
@@ -173,7 +175,7 @@ pub fn piece_at(before: Before, text: &[Option<char>]) -> Found
         Class::Connector => connected_at(text),
         Class::Digit => number_at(Base::Decimal, 0, text),
         Class::Quote => quoted_at(text),
-        Class::Apostrophe => make_found(Piece::Comment, remark_len(text)),
+        Class::Apostrophe => make_found(Piece::Comment, run_len(Run::Remark, text)),
         Class::Bracket => bracketed_at(text),
         Class::NumberSign if before.line_front => region_at(text),
         Class::NumberSign => broken(Fault::NumberSign, text),
@@ -185,10 +187,7 @@ pub fn piece_at(before: Before, text: &[Option<char>]) -> Found
 fn is_dot(symbol: Symbol) -> bool
     ensures { result ≡ spec.is_dot symbol }
 {
-    match symbol {
-        Symbol::Dot => true,
-        _ => false,
-    }
+    matches!(symbol, Symbol::Dot)
 }
 
 /// What stands before the place behind a piece.

@@ -48,22 +48,22 @@ fn goes_on(piece: Piece) -> bool
     ensures { result ≡ spec.goes_on piece }
 {
     match piece {
-        Piece::Symbol(symbol) => match symbol {
-            Symbol::CloseParenthesis | Symbol::CloseBrace | Symbol::Colon => false,
-            _ => true,
-        },
-        Piece::Keyword(keyword) => match keyword {
+        Piece::Symbol(symbol) => !matches!(
+            symbol,
+            Symbol::CloseParenthesis | Symbol::CloseBrace | Symbol::Colon
+        ),
+        Piece::Keyword(keyword) => matches!(
+            keyword,
             Keyword::Of
-            | Keyword::Mod
-            | Keyword::Is
-            | Keyword::IsNot
-            | Keyword::And
-            | Keyword::AndAlso
-            | Keyword::Or
-            | Keyword::OrElse
-            | Keyword::Xor => true,
-            _ => false,
-        },
+                | Keyword::Mod
+                | Keyword::Is
+                | Keyword::IsNot
+                | Keyword::And
+                | Keyword::AndAlso
+                | Keyword::Or
+                | Keyword::OrElse
+                | Keyword::Xor
+        ),
         _ => false,
     }
 }
@@ -72,13 +72,10 @@ fn goes_on(piece: Piece) -> bool
 fn closes(piece: Piece) -> bool
     ensures { result ≡ spec.closes piece }
 {
-    match piece {
-        Piece::Symbol(symbol) => match symbol {
-            Symbol::CloseParenthesis | Symbol::CloseBrace => true,
-            _ => false,
-        },
-        _ => false,
-    }
+    matches!(
+        piece,
+        Piece::Symbol(Symbol::CloseParenthesis | Symbol::CloseBrace)
+    )
 }
 
 // The number of a rule.

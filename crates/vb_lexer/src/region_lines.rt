@@ -3,7 +3,7 @@ ghost use Rattle.std.specs.Prelude.{◌≡◌, ◌<◌, ◌≤◌, ◌+◌, leng
 ghost use Rattle.vb_lexer.specs.Tokens as tokens;
 ghost use Rattle.vb_lexer.specs.Pieces as spec;
 
-use crate::characters::{behind, ends_line, is_at, name_at, remark_len, space_len};
+use crate::characters::{Run, behind, ends_line, is_at, name_at, run_len};
 use crate::keywords::is_word;
 use crate::literals::{content_len, quoted_at};
 use crate::piece::{Fault, Found, Piece, broken, make_found};
@@ -18,7 +18,7 @@ fn is_rest(text: &[Option<char>]) -> bool
 fn behind_space(text: &[Option<char>]) -> &[Option<char>]
     ensures { result.now ≡ spec.behind_space text.now }
 {
-    behind(text, space_len(text))
+    behind(text, run_len(Run::Space, text))
 }
 
 // Whether the whole word, given in lower case, stands at the front.
@@ -53,7 +53,7 @@ fn region_start_of(spaces: usize, text: &[Option<char>]) -> Found
     };
     let length = spaces + 7 + content + 2;
     if is_rest(behind_space(behind(text, length))) {
-        let whole = length + remark_len(behind(text, length));
+        let whole = length + run_len(Run::Remark, behind(text, length));
         region_start(quoted_at(behind(text, spaces + 7)).piece, whole, text)
     } else {
         broken(Fault::NumberSign, text)
@@ -71,7 +71,7 @@ fn region_end_of(spaces: usize, text: &[Option<char>]) -> Found
     {
         make_found(
             Piece::RegionEnd,
-            spaces + 10 + remark_len(behind(text, spaces + 10)),
+            spaces + 10 + run_len(Run::Remark, behind(text, spaces + 10)),
         )
     } else {
         broken(Fault::NumberSign, text)
@@ -84,9 +84,9 @@ pub fn region_at(text: &[Option<char>]) -> Found
 {
     let word = behind(text, 1);
     if is_word_at(word, b"region") {
-        region_start_of(space_len(behind(text, 7)), text)
+        region_start_of(run_len(Run::Space, behind(text, 7)), text)
     } else if is_word_at(word, b"end") {
-        region_end_of(space_len(behind(text, 4)), text)
+        region_end_of(run_len(Run::Space, behind(text, 4)), text)
     } else {
         broken(Fault::NumberSign, text)
     }

@@ -1,6 +1,0 @@
-use Rattle.std.proofs.Common.{◌≡◌, ℕ, ◌<◌, true, get_or, None}
-use Rattle.vb_lexer.specs.Characters.{is_in_line}
-use Rattle.vb_lexer.proofs.characters.line_len.Given as goal
-
-abbrev pub invariant-loop-i : goal.invariant-loop-i
-invariant-loop-i l = (k : ℕ) → k < l.i → is_in_line (get_or l.text k None) ≡ true
