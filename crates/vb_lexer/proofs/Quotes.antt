@@ -185,10 +185,6 @@ plus_plus : (i k : ℕ) (o : Option ℕ) → plus_some i (plus_some k o) ≡ plu
 plus_plus i k None = refl
 plus_plus i k (Some m) = ap (λ n. Some n) (omega arith)
 
-pub plus_nothing : (o : Option ℕ) → o ≡ plus_some 0 o
-plus_nothing None = refl
-plus_nothing (Some m) = ap (λ n. Some n) (omega arith)
-
 pub content_on : (cs : List Character) (i k : ℕ) (quote : Bool) → i < length cs → is_line_end (char_at cs i) ≡ false → quote ≡ is_char (char_at cs i) 34 → (quote ≡ true → is_char (char_at cs (i + 1)) 34 ≡ true) → k ≡ (if quote then 2 else 1) → content_len cs ≡ plus_some i (content_len (drop i cs)) → content_len cs ≡ plus_some (i + k) (content_len (drop (i + k) cs))
 content_on cs i k quote below inside is double step so_far =
     so_far ∙ ap (λ o. plus_some i o) (content_steps cs i quote below inside (sym is) double)
