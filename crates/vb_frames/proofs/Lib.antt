@@ -1,3 +1,4 @@
 pub mod States
 pub mod Moves
 pub mod Turning
+pub mod Dues

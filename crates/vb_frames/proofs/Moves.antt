@@ -20,7 +20,7 @@ use Rattle.vb_code.specs.declared.local.Position.{Position}
 use Rattle.vb_code.specs.declared.local.Position.TheVariants.{At as AtPlace, Writing, Throwing, Returned as HasReturned, Ended as HasEnded, Thrown as HasThrown}
 use Rattle.vb_code.specs.declared.local.Local.{Local}
 use Rattle.vb_code.specs.Code.{Code, text_at, class_from, class_named, class_name, class_units, name_in, inherits, throwable, overflow, out_of_memory}
-use Rattle.vb_code.specs.Machine.{At, Gone, act, throws, throws_class, or_throws, arith_of, joined, commits}
+use Rattle.vb_code.specs.Machine.{CodeThread, At, Gone, act, throws, throws_class, or_throws, arith_of, joined, commits}
 use Rattle.vb_code.specs.Local.{thread_at}
 use Rattle.vb_frames.specs.declared.turn.Did.{Did}
 use Rattle.vb_frames.specs.Frames.{AwaitsAt, asked_at, given_at}
@@ -118,6 +118,9 @@ module _ (c : Code) (o : Arithmetic) (k : Kind) (place : ℕ) (old new : Local) 
   pub arith_thrown : arith_of o lk l r ≡ None → Throws c overflow place old new → Stops c (Arith o k) place old new true
   arith_thrown none t = thrown c (Arith o k) place old new overflow (λ bs. came_to bs ∙ ap (λ v. or_throws c overflow v (λ v. Silent bs (At (place + 1) (Number k v ∷ needs.0.2) old.slots))) none) t
 
+  pub arith_went : (v : ℤ) → arith_of o lk l r ≡ Some v → (bs : ℕ) → (state : CodeThread) × (act c (Arith o k) bs place old.operands old.slots ≡ Silent bs state)
+  arith_went v some bs = (At (place + 1) (Number k v ∷ needs.0.2) old.slots, came_to bs ∙ ap (λ v. or_throws c overflow v (λ v. Silent bs (At (place + 1) (Number k v ∷ needs.0.2) old.slots))) some)
+
 -- the texts that are read are those on top
 module _ (c : Code) (place : ℕ) (old new : Local) (has : HasTexts old.operands) (s t : Option (List ℕ)) (a : slice_get old.operands 0 ≡ Some (Letters t)) (b : slice_get old.operands 1 ≡ Some (Letters s)) where
   second_is : s ≡ has.0
@@ -133,6 +136,9 @@ module _ (c : Code) (place : ℕ) (old new : Local) (has : HasTexts old.operands
 
   pub concat_thrown : joined (units_of s) (units_of t) ≡ None → Throws c out_of_memory place old new → Stops c Concat place old new true
   concat_thrown none h = thrown c Concat place old new out_of_memory (λ bs. came_joined bs ∙ ap (λ v. or_throws c out_of_memory v (λ v. Silent bs (At (place + 1) (Letters (Some v) ∷ has.2) old.slots))) none) h
+
+  pub concat_went : (v : List ℕ) → joined (units_of s) (units_of t) ≡ Some v → (bs : ℕ) → (state : CodeThread) × (act c Concat bs place old.operands old.slots ≡ Silent bs state)
+  concat_went v some bs = (At (place + 1) (Letters (Some v) ∷ has.2) old.slots, came_joined bs ∙ ap (λ v. or_throws c out_of_memory v (λ v. Silent bs (At (place + 1) (Letters (Some v) ∷ has.2) old.slots))) some)
 
 -- a Write stands where it has asked
 pub writes : (c : Code) (mark : Mark) (place : ℕ) (old new : Local) (committed : Bool) → HasText old.operands → place + 1 < 2 ^ 64 → ((r : Reply) → commits mark r ≡ committed) → new.position ≡ Writing place → Stays old new → Stops c (WriteInstr mark) place old new committed

@@ -10,15 +10,14 @@ use Rattle.vb_code.specs.declared.instr.Instr.{Instr}
 use Rattle.vb_code.specs.declared.instr.Instr.TheVariants.{Push}
 use Rattle.vb_code.specs.declared.instr.Constant.TheVariants.{Integer}
 use Rattle.vb_code.specs.declared.instr.Step.{Step}
-use Rattle.vb_code.specs.declared.local.Position.{Position}
-use Rattle.vb_code.specs.declared.local.Position.TheVariants.{At as AtPlace, Writing, Throwing, Returned as HasReturned, Ended as HasEnded, Thrown as HasThrown}
+use Rattle.vb_code.specs.declared.local.Position.TheVariants.{Returned as HasReturned, Ended as HasEnded}
 use Rattle.vb_code.specs.declared.local.Local.{Local}
 use Rattle.vb_code.specs.Code.{Code, body_of, begins_of, begins_at}
-use Rattle.vb_code.specs.Machine.{At, code_next, act, fetched}
+use Rattle.vb_code.specs.Machine.{CodeThread, At, code_next, act, fetched}
 use Rattle.vb_code.specs.Shapes.{IsState}
 use Rattle.vb_code.specs.Local.{thread_at, thread_of}
 use Rattle.vb_frames.specs.declared.turn.Did.TheVariants.{Went}
-use Rattle.vb_frames.specs.Frames.{AwaitsAt, AsksNow, RunsOn, IsOver, asked, asked_at, given, given_at}
+use Rattle.vb_frames.specs.Frames.{AwaitsAt, AsksNow, RunsOn, HasStep, asked, asked_at, given, given_at}
 use Rattle.vb_frames.specs.Turn.{place_of, Needs, Stays, Stops, Obeys, TurnsTo}
 use Rattle.vb_frames.proofs.States.{IsGoing, within_body, needs_at, state_next, state_given}
 use Rattle.vb_frames.proofs.Moves.{thread_here}
@@ -55,6 +54,9 @@ module _ (c : Code) (old mid : Local) (place : ℕ) (i : Instr) (n : ℕ) (here 
 
   pub turn_went : (k : ℕ) → k ≡ n → n < 2 ^ 32 → Obeys c i place old mid Went → (b : ℕ) × (code_next c (thread_of c old) ≡ Silent b (thread_of c mid)) × (mid.begun + k ≡ old.begun + b) × (b < 2 ^ 32)
   turn_went k is few h = (n, next_here ∙ h.0 n, omega (arith, is, h.1), few)
+
+  pub steps_next : ((b : ℕ) → (state : CodeThread) × (act c i b place old.operands old.slots ≡ Silent b state)) → HasStep c old
+  steps_next h = (n, (h n).0, next_here ∙ (h n).1)
 
   pub turn_asked : (committed : Bool) → IsState c (thread_of c old) → Stops c i place old mid committed → (thread_of c mid ≡ thread_of c old) × (mid.begun ≡ old.begun) × AsksNow c mid committed
   turn_asked committed state h =
@@ -131,11 +133,3 @@ kept_going c mid new state t =
 
 pub same_state : (c : Code) (mid new : Local) → IsState c (thread_of c mid) → thread_of c new ≡ thread_of c mid → IsState c (thread_of c new)
 same_state c mid new state e = subst (IsState c) (sym e) state
-
-pub not_over : (q : Position) → (q ≡ HasEnded → ⊥) → ((k : ℕ) → q ≡ HasThrown k → ⊥) → IsOver q → ⊥
-not_over (AtPlace place) a b h = h
-not_over (Writing place) a b h = h
-not_over (Throwing place class) a b h = h
-not_over HasReturned a b h = h
-not_over HasEnded a b h = a refl
-not_over (HasThrown class) a b h = b class refl

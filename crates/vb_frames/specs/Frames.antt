@@ -1,6 +1,6 @@
 -- What a thread asks where it stands, where the answer leads, and why a silent run has paused.
 use Rattle.std.specs.Prelude.{◌≡◌, ℕ, ◌+◌, ◌^◌, ◌<◌, Bool, List, [], ◌∷◌, drop, Option}
-use Rattle.vb_threads.specs.Machine.{Ended, Threw, Asks, quiet, taken, begun}
+use Rattle.vb_threads.specs.Machine.{Ended, Threw, Silent, Asks, quiet, taken, begun}
 use Rattle.vb_value.specs.Datum.{Datum, Number, Truth, Letters, Object, units_of}
 use Rattle.vb_value.specs.Store.{Ask, New, Write, End, Reply}
 use Rattle.vb_code.specs.declared.local.Position.{Position}
@@ -65,28 +65,16 @@ pub record AsksNow (c : Code) (l : Local) (committed : Bool) : Type 0 where
   pub asks : code_next c (thread_of c l) ≡ Asks (asked c l) commits (λ r. given c l)
   pub marked : (r : Reply) → commits r ≡ committed
 
--- a thread that has come to rest
-abbrev pub IsOver : Position → Type 0
-IsOver (AtPlace place) = ⊥
-IsOver (Writing place) = ⊥
-IsOver (Throwing place class) = ⊥
-IsOver HasReturned = ⊥
-IsOver HasEnded = Unit {0}
-IsOver (Thrown class) = Unit {0}
+-- what the thread does next is a silent step
+abbrev pub HasStep : Code → Local → Type 0
+HasStep c l = (begins : ℕ) × (state : CodeThread) × (code_next c (thread_of c l) ≡ Silent begins state)
 
 -- what a pause says of the thread, after so many of the turns of a budget
 abbrev pub PausesAt : Code → Local → ℕ → ℕ → Pause → Type 0
-PausesAt c l spent budget (AskPause action committed) = (spent < budget) × (ask_of c action ≡ asked c l) × AsksNow c l committed
-PausesAt c l spent budget Spent = (spent ≡ budget) × (IsOver l.position → ⊥)
+PausesAt c l spent budget (AskPause action committed) = (ask_of c action ≡ asked c l) × AsksNow c l committed
+PausesAt c l spent budget Spent = (spent ≡ budget) × HasStep c l
 PausesAt c l spent budget (Uncaught class) = l.position ≡ Thrown class
 PausesAt c l spent budget Memory = Unit {0}
-
--- why a thread has paused that rests or has used up its turns
-abbrev pub RestsAt : Position → Pause → Type 0
-RestsAt position (AskPause action committed) = ⊥
-RestsAt position Spent = IsOver position → ⊥
-RestsAt position (Uncaught class) = position ≡ Thrown class
-RestsAt position Memory = ⊥
 
 -- the pause of a thread that asks
 abbrev pub ShowsAsk : Local → Bool → Pause → Type 0

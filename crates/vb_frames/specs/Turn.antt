@@ -13,11 +13,13 @@ use Rattle.vb_code.specs.declared.local.Position.{Position}
 use Rattle.vb_code.specs.declared.local.Position.TheVariants.{At as AtPlace, Writing, Throwing, Returned, Ended, Thrown}
 use Rattle.vb_code.specs.declared.local.Local.{Local}
 use Rattle.vb_code.specs.Code.{Code, throwable, overflow, out_of_memory}
-use Rattle.vb_code.specs.Machine.{code_next, act, joined}
+use Rattle.vb_code.specs.Machine.{CodeThread, code_next, act, joined}
 use Rattle.vb_code.specs.Local.{thread_of}
 use Rattle.vb_frames.specs.declared.turn.Did.{Did}
 use Rattle.vb_frames.specs.declared.turn.Did.TheVariants.{Went, Asked, Rested, NoMemory}
-use Rattle.vb_frames.specs.Frames.{Awaits, AsksNow, asked, given}
+use Rattle.vb_frames.specs.declared.due.Due.{Due}
+use Rattle.vb_frames.specs.declared.due.Due.TheVariants.{Step, Ask, Rest}
+use Rattle.vb_frames.specs.Frames.{Awaits, AsksNow, HasStep, asked, given}
 
 -- the place at which a thread is
 abbrev pub place_of : Position → Option ℕ
@@ -104,6 +106,17 @@ TurnsTo c old new Went = (b : ℕ) × (code_next c (thread_of c old) ≡ Silent 
 TurnsTo c old new (Asked committed) = (thread_of c new ≡ thread_of c old) × (new.begun ≡ old.begun) × AsksNow c new committed
 TurnsTo c old new (Rested class) = (thread_of c new ≡ thread_of c old) × (new.begun ≡ old.begun) × (new.position ≡ Thrown class)
 TurnsTo c old new NoMemory = (thread_of c new ≡ thread_of c old) × (new.begun ≡ old.begun)
+
+-- what the instruction at a place does next: a silent step, or the ask that stands there now
+abbrev pub StandsAt : Code → Instr → ℕ → Local → Local → Option Bool → Type 0
+StandsAt c i place old new None = (new ≡ old) × ((b : ℕ) → (state : CodeThread) × (act c i b place old.operands old.slots ≡ Silent b state))
+StandsAt c i place old new (Some committed) = Stops c i place old new committed
+
+-- What is due of a thread that does no turn.
+abbrev pub IsDue : Code → Local → Local → Due → Type 0
+IsDue c old new Step = (new ≡ old) × HasStep c new
+IsDue c old new (Ask committed) = (thread_of c new ≡ thread_of c old) × (new.begun ≡ old.begun) × AsksNow c new committed
+IsDue c old new (Rest class) = (new ≡ old) × (new.position ≡ Thrown class)
 
 -- what a join of two texts came to
 abbrev pub JoinsTo : List ℕ → List ℕ → Result (List ℕ) TextErr → Type 0

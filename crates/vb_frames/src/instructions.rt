@@ -1,5 +1,5 @@
 // What each instruction does with the operands and locals.
-ghost use Rattle.std.specs.Prelude.{true, ◌≡◌, ◌+◌, ◌<◌, ◌^◌, ◌++◌, ℕ, ℤ, List, Option, Some, None, length, IfOk};
+ghost use Rattle.std.specs.Prelude.{true, ◌≡◌, ◌+◌, ◌<◌, ◌^◌, [], ℕ, ℤ, List, Option, Some, None, length, IfOk};
 ghost use Rattle.std.specs.Fmt.{signed_decimal};
 ghost use Rattle.vb_num.specs.declared.kinds.Kind.{Kind};
 ghost use Rattle.vb_num.specs.Num.{Answers};
@@ -84,8 +84,8 @@ pub fn arith(code: &Code, operation: Arithmetic, place: usize, local: &mut Local
     }
 }
 
-// The result of an operation on two numbers.
-fn operate(operation: Arithmetic, left: Num, right: Num) -> Result<Num, Thrown>
+/// The result of an operation on two numbers.
+pub fn operate(operation: Arithmetic, left: Num, right: Num) -> Result<Num, Thrown>
     requires { left.kind ≡ right.kind }
     ensures { Answers left.kind (arith_of operation left.kind left.value right.value) result }
 {
@@ -96,8 +96,8 @@ fn operate(operation: Arithmetic, left: Num, right: Num) -> Result<Num, Thrown>
     }
 }
 
-// Stands where an object of a class of this name is asked for and then thrown.
-fn throw(code: &Code, name: &[u8], place: usize, local: &mut Local) -> Did
+/// Stands where an object of a class of this name is asked for and then thrown.
+pub fn throw(code: &Code, name: &[u8], place: usize, local: &mut Local) -> Did
     requires { Throwable code.now name.now }
     ensures asked { result ≡ Did.Asked true }
     ensures throws { Throws code.now name.now place local.old local.new }
@@ -144,8 +144,11 @@ pub fn concat(alloc: Global, code: &Code, place: usize, local: &mut Local) -> Di
     requires next { place + 1 < 2 ^ 64 }
     ensures { Obeys code.now Instr.Concat place local.old local.new result }
 {
-    let back = units(local.operands.text_at(0));
-    let front = units(local.operands.text_at(1));
+    let Ok(empty) = Text::new(Vec::new(alloc)) else {
+        return Did::NoMemory;
+    };
+    let back = or_empty(local.operands.text_at(0), &empty);
+    let front = or_empty(local.operands.text_at(1), &empty);
     match join(alloc, front, back) {
         Ok(text) => {
             local.operands.replace_two(Value::Text(Some(text)));
@@ -157,33 +160,22 @@ pub fn concat(alloc: Global, code: &Code, place: usize, local: &mut Local) -> Di
     }
 }
 
-// The units of a text. Nothing has none.
-fn units(text: &Option<Text>) -> &[u16]
+// The text, or in place of Nothing the empty one.
+fn or_empty<'a>(text: &'a Option<Text>, empty: &'a Text) -> &'a Text
+    requires { empty.now ≡ [] }
     ensures { result.now ≡ units_of text.now }
 {
     match text {
-        Some(text) => text.units(),
-        None => &[],
+        Some(text) => text,
+        None => empty,
     }
 }
 
-// The text of both lists of units.
-fn join(alloc: Global, front: &[u16], back: &[u16]) -> Result<Text, TextErr>
+// The text of both.
+fn join(alloc: Global, front: &Text, back: &Text) -> Result<Text, TextErr>
     ensures { JoinsTo front.now back.now result }
 {
-    match joined(alloc, front, back) {
-        Ok(units) => Text::new(units),
-        Err(_) => Err(TextErr::Memory),
-    }
-}
-
-// Both lists, one after the other.
-fn joined(alloc: Global, front: &[u16], back: &[u16]) -> Result<Vec<u16>, AllocError>
-    ensures { IfOk result (λ v. v.items ≡ front.now ++ back.now) }
-{
-    let mut units = Vec::from_slice(alloc, front)?;
-    units.extend_from_slice(back)?;
-    Ok(units)
+    front.concat(alloc, back)
 }
 
 /// Puts the decimal text of the number on top in its place.

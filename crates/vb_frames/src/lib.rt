@@ -2,6 +2,7 @@
 #![tactic(auto)]
 
 mod answer;
+mod due;
 mod instructions;
 mod run;
 mod turn;

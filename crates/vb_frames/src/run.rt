@@ -1,14 +1,15 @@
 // A thread's silent run to its next ask.
-ghost use Rattle.std.specs.Prelude.{◌≡◌, ◌+◌, ◌*◌, ◌^◌, ◌<◌, ◌≤◌, IfOk};
+ghost use Rattle.std.specs.Prelude.{◌≡◌, ℕ, ◌+◌, ◌*◌, ◌^◌, ◌<◌, ◌≤◌, map, IfOk};
 ghost use Rattle.vb_value.specs.Datum.{units_of};
-ghost use Rattle.vb_code.specs.Code.{Code};
+ghost use Rattle.vb_code.specs.Code.{Code, body_of};
 ghost use Rattle.vb_code.specs.Local.{ask_of, thread_of};
 ghost use Rattle.vb_code.specs.Shapes.{IsState};
-ghost use Rattle.vb_frames.specs.Frames.{Awaits, RunsOn, PausesAt, RestsAt, ShowsAsk, asked};
+ghost use Rattle.vb_frames.specs.Frames.{Awaits, RunsOn, PausesAt, ShowsAsk, asked};
 
+use crate::due::{Due, due_of};
 use crate::turn::{Did, turn};
 use std::alloc::{AllocError, Global};
-use vb_code::{Checked, Local, Position};
+use vb_code::{Checked, Code, Local, Position, Step};
 use vb_text::Text;
 use vb_value::Action;
 
@@ -17,7 +18,7 @@ use vb_value::Action;
 pub enum Pause {
     /// The thread asks this. Its entry counts as a step of the source program where it is committed.
     Ask(Action, bool),
-    /// The turns are used up, and the thread has not come to its end.
+    /// The turns are used up, and the thread's next step is silent.
     Spent,
     /// The thread has thrown an object of the class of this number, and nothing catches it.
     Uncaught(usize),
@@ -34,8 +35,8 @@ pub struct Paused {
 
 /// Runs a thread silently until it asks, has thrown to its bottom, has used up the budget of turns, or finds no memory.
 ///
-/// The asking instruction is none of the turns spent, and with no turn left there is no `Ask`. A thread whose last ask has
-/// no answer yet asks the same again, with no turn spent.
+/// The asking instruction is none of the turns spent, so it needs no turn: with a budget of 0 a thread that is at an ask
+/// answers that ask. A thread whose last ask has no answer yet asks the same again, with no turn spent.
 pub fn run_local(alloc: Global, code: &Checked, local: &mut Local, budget: u64) -> Paused
     requires state { IsState code.now (thread_of code.now local.old) }
     requires going { local.old.position ≡ Position.Ended → ⊥ }
@@ -74,18 +75,23 @@ pub fn run_local(alloc: Global, code: &Checked, local: &mut Local, budget: u64) 
     }
     Paused {
         spent: budget,
-        why: rest_of(local.position),
+        why: last_pause(alloc, program, steps, local),
     }
 }
 
-// Why a thread rests that has used up its turns.
-fn rest_of(position: Position) -> Pause
-    requires { position ≡ Position.Ended → ⊥ }
-    ensures { RestsAt position result }
+// Why a thread pauses that has no turn left.
+fn last_pause(alloc: Global, code: &Code, steps: &[Step], local: &mut Local) -> Pause
+    requires body { body_of code.now ≡ map (λ s. s.instr) steps.now }
+    requires state { IsState code.now (thread_of code.now local.old) }
+    requires going { local.old.position ≡ Position.Ended → ⊥ }
+    ensures thread { thread_of code.now local.new ≡ thread_of code.now local.old }
+    ensures begun { local.new.begun ≡ local.old.begun }
+    ensures pauses { (budget : ℕ) → PausesAt code.now local.new budget budget result }
 {
-    match position {
-        Position::Thrown(class) => Pause::Uncaught(class),
-        _ => Pause::Spent,
+    match due_of(code, steps, local) {
+        Due::Step => Pause::Spent,
+        Due::Ask(committed) => asking(alloc, local, committed),
+        Due::Rest(class) => Pause::Uncaught(class),
     }
 }
 

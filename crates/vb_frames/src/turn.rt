@@ -122,8 +122,8 @@ fn value_of(constant: Constant) -> Value
     }
 }
 
-// Whether each entry with this mark is committed. None is with another mark.
-fn is_always(mark: Mark) -> bool
+/// Whether each entry with this mark is committed. None is with another mark.
+pub fn is_always(mark: Mark) -> bool
     ensures { (reply : Reply) → commits mark reply ≡ result }
 {
     matches!(mark, Mark::Always)

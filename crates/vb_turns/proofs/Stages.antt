@@ -1,5 +1,5 @@
 -- A run so far goes on by silent steps and by an entry.
-use Rattle.std.proofs.Common.{◌≡◌, ℕ, zero, suc, ◌+◌, ◌*◌, ◌<◌, ◌≤◌, Bool, true, false, cond, List, [], ◌∷◌, ◌++◌, map, Option, Some, None, refl, sym, ap, ap₂, subst, ◌∙◌, arith, append-nil, append_assoc}
+use Rattle.std.proofs.Common.{◌≡◌, inr, ℕ, zero, suc, ◌+◌, ◌*◌, ◌<◌, ◌≤◌, Bool, true, false, cond, List, [], ◌∷◌, ◌++◌, map, Option, Some, None, refl, sym, ap, ap₂, subst, ◌∙◌, arith, append-nil, append_assoc}
 use Rattle.std.proofs.lemmas.Bool.Decides.{nat_tests}
 use Rattle.std.proofs.lemmas.List.{map-append}
 use Rattle.vb_threads.specs.Machine.{Next, Machine, state_of, begins_of, takes, quiet, begun, taken}
@@ -233,7 +233,8 @@ module _ (c : Code) (limits : Limits) (old mid : Running) (leads : Leads c limit
   pub stopped_at : (new : Running) (committed : Bool) (stop : Stop) (before after : Option (List ℕ)) (faults now : ℕ) → AsksNow c mid.local committed → Performs c limits mid new before after faults now (Some stop) → Ends c limits old new stop before after faults now
   stopped_at new committed Ended before after faults now asks p = absurd p
   stopped_at new committed (Uncaught thread class) before after faults now asks p = absurd p
-  stopped_at new committed TurnLimit before after faults now asks p = absurd p
+  stopped_at new committed TurnLimit before after faults now asks p =
+      subst (λ r. Ends c limits old r TurnLimit before after faults now) (sym (same_is mid new p.0)) (stands_at TurnLimit before after faults now (p.2, refl, inr ((committed, asks), p.3), keeps_none before after p.1))
   stopped_at new committed HeapLimit before after faults now asks p =
       subst (λ r. Ends c limits old r HeapLimit before after faults now) (sym (same_is mid new p.0)) (stands_at HeapLimit before after faults now ((committed, asks), p.2, keeps_none before after p.1))
   stopped_at new committed WriteFault before after faults now asks p =
@@ -298,6 +299,6 @@ goes_ends c limits a b d stop x y z f g now le goes e = record {
     by Ended h = (h.0, more e.more h.1)
     by (Uncaught thread class) h = (h.0, h.1, more e.more h.2)
     by HeapLimit h = (h.0, h.1, more e.more h.2)
-    by TurnLimit h = (h.0, h.1, more e.more h.2)
+    by TurnLimit h = (h.0, h.1, h.2, more e.more h.3)
     by WriteFault h = (h.0, h.1, h.2, h.3, h.4, h.5, h.6, subst (λ xs. Appends x z xs) (sym (append_assoc goes.more e.more h.3)) (more (e.more ++ h.3) h.7), rose_before f g now le h.8)
     by Memory h = more e.more h

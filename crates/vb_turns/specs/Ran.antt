@@ -1,11 +1,12 @@
 -- What the run of a program with one thread comes to.
-use Rattle.std.specs.Prelude.{◌≡◌, ℕ, ◌+◌, ◌<◌, ◌≤◌, ◌++◌, List, [], ◌∷◌, map, length, Option}
+use Rattle.std.specs.Prelude.{◌≡◌, ℕ, ◌+◌, ◌<◌, ◌≤◌, ◌++◌, List, [], ◌∷◌, map, length, Option, Some}
 use Rattle.std.specs.Io.KnownBytes.{Appends}
 use Rattle.vb_io.specs.Causes.{Rose}
 use Rattle.vb_text.specs.Units.{utf8_of}
-use Rattle.vb_threads.specs.Machine.{AsksWrite, begun, taken}
+use Rattle.vb_threads.specs.Machine.{Sign, AsksWrite, quiet, begun, taken}
 use Rattle.vb_threads.specs.World.{Thread, World, Run as Legal, opening, Entry as OneEntry}
-use Rattle.vb_threads.specs.Schedule.{Reaches, ShowsNow, AllEnded, Ended as AllHaveEnded, Uncaught as HasThrown, HeapLimit as NoHeap, StandsNow}
+use Rattle.vb_threads.specs.Stands.{sign, IsStuck}
+use Rattle.vb_threads.specs.Schedule.{Reaches, Stop as ThreadStop, Ended as AllHaveEnded, Uncaught as HasThrown, HeapLimit as NoHeap, StopSays}
 use Rattle.vb_value.specs.Store.{Store, seen}
 use Rattle.vb_value.specs.declared.journal.Entry.{Entry}
 use Rattle.vb_value.specs.declared.stop.Limits.{Limits}
@@ -24,23 +25,31 @@ abbrev pub AreMains : List Entry → Type 0
 AreMains [] = Unit {0}
 AreMains (e ∷ es) = (e.thread ≡ 0) × (e.worker ≡ 0) × AreMains es
 
--- What the sink has gained at a stop: the console, and at a failed write a proper front of the text that is asked next.
-abbrev pub ShowsBy : Code → World CodeThread Store → List ℕ → Stop → Option (List ℕ) → Option (List ℕ) → ℕ → ℕ → Type 0
-ShowsBy c w tails Ended old new before now = Appends old new w.store.console
-ShowsBy c w tails (Uncaught thread class) old new before now = Appends old new w.store.console
-ShowsBy c w tails HeapLimit old new before now = Appends old new w.store.console
-ShowsBy c w tails TurnLimit old new before now = Appends old new w.store.console
-ShowsBy c w tails Memory old new before now = Appends old new w.store.console
-ShowsBy c w tails WriteFault old new before now = (text : List ℕ) × (front : List ℕ) × (back : List ℕ) × ShowsNow (code_machine c) w tails 0 (AsksWrite text) × (utf8_of text ≡ front ++ back) × (0 < length back) × Appends old new (w.store.console ++ front) × Rose before now
+-- what the one thread shows in this state
+abbrev pub ShowsIn : Code → Store → CodeThread → ℕ → Sign → Type 0
+ShowsIn c store state t x = (t ≡ 0) × (sign (code_machine c).rows store (code_next c state) ≡ Some x)
 
--- How the threads stand at a stop.
-abbrev pub StandsBy : Code → World CodeThread Store → List ℕ → ℕ → Limits → Stop → Type 0
-StandsBy c w tails turns limits Ended = StandsNow (code_machine c) w tails limits.heap AllHaveEnded
-StandsBy c w tails turns limits (Uncaught thread class) = (thread ≡ 0) × StandsNow (code_machine c) w tails limits.heap (HasThrown 0 (class_name c class))
-StandsBy c w tails turns limits HeapLimit = StandsNow (code_machine c) w tails limits.heap NoHeap
-StandsBy c w tails turns limits TurnLimit = (turns ≡ limits.turns) × (AllEnded 1 (seen w.store) → ⊥)
-StandsBy c w tails turns limits WriteFault = Unit {0}
-StandsBy c w tails turns limits Memory = Unit {0}
+-- a stop stands while the one thread is in this state
+abbrev pub StandsIn : Code → Store → CodeThread → ℕ → ThreadStop → Type 0
+StandsIn c store state heap stop = StopSays (ShowsIn c store state) (IsStuck (code_machine c).rows store 0 (code_next c state)) 1 (seen store) heap stop
+
+-- What the sink has gained at a stop: the console, and at a failed write a proper front of the text that is asked next.
+abbrev pub ShowsBy : Code → Store → CodeThread → Stop → Option (List ℕ) → Option (List ℕ) → ℕ → ℕ → Type 0
+ShowsBy c store state Ended old new before now = Appends old new store.console
+ShowsBy c store state (Uncaught thread class) old new before now = Appends old new store.console
+ShowsBy c store state HeapLimit old new before now = Appends old new store.console
+ShowsBy c store state TurnLimit old new before now = Appends old new store.console
+ShowsBy c store state Memory old new before now = Appends old new store.console
+ShowsBy c store state WriteFault old new before now = (text : List ℕ) × (front : List ℕ) × (back : List ℕ) × ShowsIn c store state 0 (AsksWrite text) × (utf8_of text ≡ front ++ back) × (0 < length back) × Appends old new (store.console ++ front) × Rose before now
+
+-- A stop of the threads stands where the one thread is. At the turn limit none does.
+abbrev pub StandsBy : Code → Store → CodeThread → ℕ → Limits → Stop → Type 0
+StandsBy c store state turns limits Ended = StandsIn c store state limits.heap AllHaveEnded
+StandsBy c store state turns limits (Uncaught thread class) = StandsIn c store state limits.heap (HasThrown thread (class_name c class))
+StandsBy c store state turns limits HeapLimit = StandsIn c store state limits.heap NoHeap
+StandsBy c store state turns limits TurnLimit = (turns ≡ limits.turns) × ((other : ThreadStop) → StandsIn c store state limits.heap other → ⊥)
+StandsBy c store state turns limits WriteFault = Unit {0}
+StandsBy c store state turns limits Memory = Unit {0}
 
 -- The journal is legal and leads to a world, from which the thread has come on to the run's tail by silent steps; the
 -- counts are those of that run; and the sink and the threads are as the stop says.
@@ -58,5 +67,5 @@ pub record Ran (code : Code) (limits : Limits) (run : Run) (stop : Stop) (input 
   pub units : run.units ≡ world.store.units
   pub within : run.turns ≤ limits.turns
   pub committed : AreMains run.journal
-  pub shows : ShowsBy code world run.tails stop old new before now
-  pub stands : StandsBy code world run.tails run.turns limits stop
+  pub shows : ShowsBy code world.store (quiet (code_next code) steps thread.state) stop old new before now
+  pub stands : StandsBy code world.store (quiet (code_next code) steps thread.state) run.turns limits stop

@@ -1,5 +1,5 @@
 -- A run so far, and what one ask or a stop makes of it.
-use Rattle.std.specs.Prelude.{◌≡◌, ℕ, ◌+◌, ◌*◌, ◌<◌, ◌≤◌, ◌++◌, Bool, cond, List, [], ◌∷◌, map, length, Option, Some, None}
+use Rattle.std.specs.Prelude.{◌≡◌, ◌⊎◌, ℕ, ◌+◌, ◌*◌, ◌<◌, ◌≤◌, ◌++◌, Bool, cond, List, [], ◌∷◌, map, length, Option, Some, None}
 use Rattle.std.specs.Io.KnownBytes.{Appends, Keeps}
 use Rattle.vb_io.specs.Causes.{Rose}
 use Rattle.vb_io.specs.Outside.{AppendsPart}
@@ -19,7 +19,7 @@ use Rattle.vb_code.specs.Shapes.{IsState}
 use Rattle.vb_code.specs.Local.{thread_of, ask_of}
 use Rattle.vb_frames.specs.declared.run.Pause.{Pause}
 use Rattle.vb_frames.specs.declared.run.Pause.TheVariants.{Ask as AskPause, Spent, Uncaught as UncaughtPause, Memory as MemoryPause}
-use Rattle.vb_frames.specs.Frames.{AsksNow, IsOver, asked, given}
+use Rattle.vb_frames.specs.Frames.{AsksNow, HasStep, asked, given}
 use Rattle.vb_turns.specs.declared.alone.Running.{Running}
 use Rattle.vb_turns.specs.Ran.{entry_of, AreMains}
 
@@ -58,8 +58,8 @@ pub record IsFine (c : Code) (limits : Limits) (r : Running) : Type 0 where
 
 -- what the pause of a silent run says of the run
 abbrev pub PausesNow : Code → Limits → Running → Pause → Type 0
-PausesNow c limits r (AskPause action committed) = (r.turns < limits.turns) × (ask_of c action ≡ asked c r.local) × AsksNow c r.local committed
-PausesNow c limits r Spent = (r.turns ≡ limits.turns) × (IsOver r.local.position → ⊥)
+PausesNow c limits r (AskPause action committed) = (ask_of c action ≡ asked c r.local) × AsksNow c r.local committed
+PausesNow c limits r Spent = (r.turns ≡ limits.turns) × HasStep c r.local
 PausesNow c limits r (UncaughtPause class) = r.local.position ≡ Thrown class
 PausesNow c limits r MemoryPause = Unit {0}
 
@@ -105,7 +105,7 @@ abbrev pub Performs : Code → Limits → Running → Running → Option (List �
 Performs c limits old new before after faults now None = Adds c limits old new (asked c old.local) before after
 Performs c limits old new before after faults now (Some Ended) = ⊥
 Performs c limits old new before after faults now (Some (Uncaught thread class)) = ⊥
-Performs c limits old new before after faults now (Some TurnLimit) = ⊥
+Performs c limits old new before after faults now (Some TurnLimit) = IsSame old new × Keeps before after × (old.turns ≡ limits.turns) × (old.units + units_asked (asked c old.local) ≤ limits.heap)
 Performs c limits old new before after faults now (Some HeapLimit) = IsSame old new × Keeps before after × (limits.heap < old.units + units_asked (asked c old.local))
 Performs c limits old new before after faults now (Some WriteFault) = IsSame old new × (text : List ℕ) × (asked c old.local ≡ Write text) × AppendsPart before after (utf8_of text) × Rose faults now
 Performs c limits old new before after faults now (Some Memory) = IsSame old new × Keeps before after
@@ -135,12 +135,16 @@ pub record Settles (c : Code) (committed : Bool) (more : ℕ) (old new : Running
   pub settled : new.settled ≡ cond committed (old.settled + old.local.begun) old.settled
   pub begun : new.local.begun ≡ cond committed 0 old.local.begun
 
+-- the thread has a silent step, or an ask within the heap limit
+abbrev pub HasMore : Code → Limits → Running → Type 0
+HasMore c limits r = HasStep c r.local ⊎ (((committed : Bool) × AsksNow c r.local committed) × (r.units + units_asked (asked c r.local) ≤ limits.heap))
+
 -- how a run stands at a stop, after so many bytes more
 abbrev pub EndsBy : Code → Limits → Running → Stop → List ℕ → List ℕ → Option (List ℕ) → Option (List ℕ) → ℕ → ℕ → Type 0
 EndsBy c limits r Ended more over before after faults now = (over ≡ 0 ∷ []) × Appends before after more
 EndsBy c limits r (Uncaught thread class) more over before after faults now = (thread ≡ 0) × (r.local.position ≡ Thrown class) × Appends before after more
 EndsBy c limits r HeapLimit more over before after faults now = ((committed : Bool) × AsksNow c r.local committed) × (limits.heap < r.units + units_asked (asked c r.local)) × Appends before after more
-EndsBy c limits r TurnLimit more over before after faults now = (r.turns ≡ limits.turns) × (over ≡ []) × Appends before after more
+EndsBy c limits r TurnLimit more over before after faults now = (r.turns ≡ limits.turns) × (over ≡ []) × HasMore c limits r × Appends before after more
 EndsBy c limits r WriteFault more over before after faults now = ((committed : Bool) × AsksNow c r.local committed) × (text : List ℕ) × (asked c r.local ≡ Write text) × (front : List ℕ) × (back : List ℕ) × (utf8_of text ≡ front ++ back) × (0 < length back) × Appends before after (more ++ front) × Rose faults now
 EndsBy c limits r Memory more over before after faults now = Appends before after more
 

@@ -45,9 +45,9 @@ pub struct Running {
 
 /// Runs a program with one thread to its stop. Each instruction is one turn.
 ///
-/// A thread that has thrown stops the run as `Uncaught`, also where the turns are used up. What is asked with no turn left
-/// is `TurnLimit`, and an object above the heap limit with a turn left is `HeapLimit`. The memory of a write is taken before
-/// its first byte: `Memory` comes with nothing of it put, and `WriteFault` with a proper front of it.
+/// `TurnLimit` comes only where no other stop stands: with no turn left, a thread that has thrown is `Uncaught`, and an object
+/// above the heap limit is `HeapLimit`. The memory of a write is taken before its first byte: `Memory` comes with nothing of it
+/// put, and `WriteFault` with a proper front of it.
 pub fn run_alone<O: Sink>(alloc: Global, code: &Checked, limits: Limits, out: &mut O) -> Finish
     requires turns { limits.turns ≤ 50000000 }
     requires heap { limits.heap ≤ 16777216 }

@@ -13,7 +13,8 @@ use vb_io::{Sink, write_all};
 use vb_text::Text;
 use vb_value::{Action, Entry, Limits, Stop};
 
-/// Does what the thread asks and adds its entry, or answers the stop that comes before it.
+/// Does what the thread asks and adds its entry, or answers the stop that comes before it: an object above the heap limit is
+/// `HeapLimit`, also with no turn left.
 pub fn perform<O: Sink>(
     alloc: Global,
     code: &Checked,
@@ -26,7 +27,6 @@ pub fn perform<O: Sink>(
     requires asks { AsksNow code.now running.old.local committed }
     requires action { ask_of code.now action ≡ asked code.now running.old.local }
     requires fine { IsFine code.now limits running.old }
-    requires left { running.old.turns < limits.turns }
     requires few { limits.turns ≤ 50000000 }
     requires heap { limits.heap ≤ 16777216 }
 
@@ -36,6 +36,9 @@ pub fn perform<O: Sink>(
     let units = units_of(code, &action);
     if running.units + units > limits.heap {
         return Some(Stop::HeapLimit);
+    }
+    if running.turns >= limits.turns {
+        return Some(Stop::TurnLimit);
     }
     let entry = Entry {
         thread: 0,

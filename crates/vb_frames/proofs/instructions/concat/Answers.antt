@@ -13,7 +13,7 @@ returns-in-Err-TooLong c =
     let old = c.args.local.now in
     let back = c.text_at.result.now in
     let front = c.text_at-2.result.now in
-    let long : joined c.units-front.result.now c.units-back.result.now ≡ None = subst (λ e. JoinsTo c.units-front.result.now c.units-back.result.now (Err e)) c.in-Err-TooLong.field-0-is c.in-Err-TooLong.ensures in
-    let none : joined (units_of front) (units_of back) ≡ None = ap₂ (λ s t. joined s t) (sym c.units-front.ensures) (sym c.units-back.ensures) ∙ long in
+    let long : joined c.or_empty-front.result.now c.or_empty-back.result.now ≡ None = subst (λ e. JoinsTo c.or_empty-front.result.now c.or_empty-back.result.now (Err e)) c.in-Err-TooLong.field-0-is c.in-Err-TooLong.ensures in
+    let none : joined (units_of front) (units_of back) ≡ None = ap₂ (λ s t. joined s t) (sym c.or_empty-front.ensures) (sym c.or_empty-back.ensures) ∙ long in
     subst (λ did. Obeys code Concat c.args.place old c.throw.new.local did) (sym c.throw.ensures.asked)
     (concat_thrown code c.args.place old c.throw.new.local c.requires.texts front back c.text_at.ensures c.text_at-2.ensures none c.throw.ensures.throws)

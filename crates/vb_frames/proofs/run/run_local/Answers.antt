@@ -1,4 +1,5 @@
 use Rattle.std.proofs.Common.{◌≤◌, ◌+◌, ◌*◌, arith, subst}
+use Rattle.vb_frames.specs.Frames.{PausesAt}
 use Rattle.vb_frames.specs.Turn.{TurnsTo}
 use Rattle.vb_frames.proofs.Turning.{runs_more, kept_going}
 use Rattle.vb_frames.proofs.run.run_local.Goals as goal
@@ -13,3 +14,6 @@ loop-spent-preserved c =
     let going = kept_going code mid new known.state went in
     let room : new.begun ≤ c.args.local.now.begun + 4294967296 * (c.loop-spent.spent + 1) = omega (arith, known.room, went.2, went.3) in
     record { state = going.0; going = going.1; runs = runs_more code c.args.local.now mid new c.loop-spent.spent known.runs went; room = room }
+
+pub returns-clause-pauses : goal.returns-clause-pauses
+returns-clause-pauses c = subst (λ k. PausesAt k c.last_pause.new.local c.args.budget c.args.budget c.last_pause.result) c.code-program.ensures.code (c.last_pause.ensures.pauses c.args.budget)
