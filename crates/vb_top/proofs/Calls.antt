@@ -176,7 +176,7 @@ module _ (words : List (List ℕ)) (told : Option Files) (file : List ℕ) (fb f
           words_and_files = record { judged = works.judged; reported = works.reported; named = works.named; told = tells; kept = kept };
           least_refusal = works.least;
           console_lines = x.shows;
-          stop_stands = x.stands;
+          stop_stands = (x.stands, x.stands_in_code);
           code_did_it = (x.did, subst (λ i. MayBe input_after i) (sym x.did.input_left) left);
           numbers = x.counted (widest ran.3.parsed.read.lines) (is_wide ran.0 ran.1 ran.3);
           schedule = x.mains;

@@ -4,14 +4,13 @@ use Rattle.std.specs.Prelude.{sum}
 use Rattle.std.specs.Io.KnownBytes.{Appends}
 use Rattle.std.proofs.Math.Nat.{mul-le-mul_left}
 use Rattle.vb_io.specs.Causes.{Rose}
-use Rattle.vb_threads.specs.Machine.{View, AsksWrite, begun}
+use Rattle.vb_threads.specs.Machine.{View, AsksNew, AsksWrite, HasThrown as Threw, begun}
 use Rattle.vb_threads.specs.World.{World, Entry, Run as Legal, opening, at}
 use Rattle.vb_threads.specs.Stands.{StandsFor}
-use Rattle.vb_threads.specs.Schedule.{Told, AllEnded, Ended as AllHaveEnded, Uncaught as HasThrown, HeapLimit as NoHeap, Stands}
+use Rattle.vb_threads.specs.Schedule.{Told, AllEnded, Ended as AllHaveEnded, Uncaught as HasThrown, HeapLimit as NoHeap}
 use Rattle.vb_threads.specs.Work.{IsWithin}
 use Rattle.vb_threads.proofs.Schedules.{told_by_schedule}
 use Rattle.vb_value.specs.Store.{Places, Store, Ask, New, Write, End, seen, after}
-use Rattle.vb_value.specs.declared.stop.Limits.{Limits}
 use Rattle.vb_value.specs.declared.stop.Stop.{Stop}
 use Rattle.vb_value.specs.declared.stop.Stop.TheVariants.{Ended, Uncaught, HeapLimit, TurnLimit, WriteFault, Memory}
 use Rattle.vb_code.specs.Code.{Code, class_name}
@@ -22,7 +21,8 @@ use Rattle.vb_meaning.specs.Source.{source_machine}
 use Rattle.vb_meaning.proofs.Commits.{each_commits}
 use Rattle.vb_turns.specs.declared.alone.Run.{Run}
 use Rattle.vb_turns.specs.Ran.{entry_of, Ran}
-use Rattle.vb_top.specs.Reports.{report_with, turn_limit, heap_limit, Gains, StopStandsIn, AsksWriting, RanProgram}
+use Rattle.vb_turns.proofs.Finishes.{shows_now}
+use Rattle.vb_top.specs.Reports.{report_with, heap_limit, limits, Gains, StopStandsIn, AsksWriting, RanProgram}
 
 -- no ask takes input
 after_input : (w : Store) (t : ℕ) (a : Ask) → (after w t a).input ≡ w.input
@@ -35,10 +35,6 @@ run_input c [] w v r = ap (λ (x : World CodeThread Store). x.store.input) r
 run_input c (e ∷ journal) w v r =
     let d = r.1 in
     run_input c journal r.0 v r.2 ∙ ap (λ (x : World CodeThread Store). x.store.input) d.leads ∙ after_input w.store e.thread d.ask
-
--- the limits of a run for which the words give none
-abbrev pub limits : Limits
-limits = record { turns = turn_limit; heap = heap_limit }
 
 module _ (t : Tree) (code : Code) (run : Run) (input : List ℕ) (old new : Option (List ℕ)) (before now : ℕ) (stands_for : StandsFor (code_machine code) (source_machine t)) where
   module _ (stop : Stop) (ran : Ran code limits run stop input old new before now) where
@@ -59,18 +55,20 @@ module _ (t : Tree) (code : Code) (run : Run) (input : List ℕ) (old new : Opti
   gains Memory ran = subst (λ x. Appends old new x) (consoles Memory ran) ran.shows
   gains WriteFault ran =
       let s = ran.shows in
-      (s.0, s.1, s.2, (told WriteFault ran).shows 0 (AsksWrite s.0) s.3, s.4, s.5, subst (λ x. Appends old new (x ++ s.1)) (consoles WriteFault ran) s.6)
+      (s.0, s.1, s.2, (told WriteFault ran).shows 0 (AsksWrite s.0) (shows_now code limits run WriteFault input old new before now ran 0 (AsksWrite s.0) s.3), s.4, s.5, subst (λ x. Appends old new (x ++ s.1)) (consoles WriteFault ran) s.6)
 
   stands_in : (stop : Stop) (ran : Ran code limits run stop input old new before now) → StopStandsIn t (report_with code run stop) (told stop ran).world stop
-  stands_in Ended ran = (told Ended ran).stands heap_limit AllHaveEnded ran.stands
+  stands_in Ended ran = (told Ended ran).stands heap_limit AllHaveEnded (subst (λ n. AllEnded n (seen ran.world.store)) (sym (ap length ran.one)) ran.stands)
   stands_in (Uncaught thread class) ran =
+      let stop = Uncaught thread class in
+      (told stop ran).stands heap_limit (HasThrown thread (class_name code class)) (shows_now code limits run stop input old new before now ran thread (Threw (class_name code class)) ran.stands)
+  stands_in HeapLimit ran =
       let s = ran.stands in
-      subst (λ n. Stands (source_machine t) (told (Uncaught thread class) ran).world run.tails heap_limit (HasThrown n (class_name code class))) (sym s.0) ((told (Uncaught thread class) ran).stands heap_limit (HasThrown 0 (class_name code class)) s.1)
-  stands_in HeapLimit ran = (told HeapLimit ran).stands heap_limit NoHeap ran.stands
+      (told HeapLimit ran).stands heap_limit NoHeap (record { thread = s.thread; class = s.class; units = s.units; asks = shows_now code limits run HeapLimit input old new before now ran s.thread (AsksNew s.class s.units) s.asks; over = s.over })
   stands_in TurnLimit ran =
       let x = told TurnLimit ran in
       let one : length x.world.threads ≡ 1 = sym x.as_many ∙ ap length ran.one in
-      (ran.stands.0, λ all. ran.stands.1 (subst (λ (v : View Places). AllEnded 1 v) (sym x.looks) (subst (λ n. AllEnded n (seen x.world.store)) one all)))
+      (ran.stands.0, λ all. ran.stands.1 AllHaveEnded (subst (λ (v : View Places). AllEnded 1 v) (sym x.looks) (subst (λ n. AllEnded n (seen x.world.store)) one all)))
   stands_in WriteFault ran = tt
   stands_in Memory ran = tt
 
@@ -80,7 +78,7 @@ module _ (t : Tree) (code : Code) (run : Run) (input : List ℕ) (old new : Opti
   asks_it HeapLimit ran e = cc
   asks_it TurnLimit ran e = cc
   asks_it Memory ran e = cc
-  asks_it WriteFault ran e = let s = ran.shows in (s.7, (s.0, s.3))
+  asks_it WriteFault ran e = let s = ran.shows in (s.7, (s.0, shows_now code limits run WriteFault input old new before now ran 0 (AsksWrite s.0) s.3))
 
   at_most : (turns begun wide threads : ℕ) → turns ≤ 256 * (begun + 1) → 1 ≤ wide → threads ≡ 0 → turns ≤ 256 * wide * (threads + 1) * (begun + 1)
   at_most turns begun wide threads le some none =
@@ -101,7 +99,8 @@ module _ (t : Tree) (code : Code) (run : Run) (input : List ℕ) (old new : Opti
         steps = ran.steps;
         shows = record { legal = x.legal; tails = x.tails; gains = gains stop ran };
         stands = stands_in stop ran;
-        did = record { checked = checked; legal = ran.legal; same_text = consoles stop ran; input_left = run_input code (map entry_of run.journal) (opening (code_machine code) input heap_limit) ran.world ran.legal; one = ran.one; paid = ran.turns; tails = tail };
+        stands_in_code = ran.stands;
+        did = record { checked = checked; stands = stands_for; legal = ran.legal; same_text = consoles stop ran; input_left = run_input code (map entry_of run.journal) (opening (code_machine code) input heap_limit) ran.world ran.legal; one = ran.one; paid = ran.turns; tails = tail };
         counted = λ wide some. record {
           within = ran.within;
           begun = ran.begun ∙ (omega (arith, x.begun, sums));

@@ -26,7 +26,8 @@ as_memory t r thread class e input old new before now x =
       steps = x.steps;
       shows = record { legal = x.shows.legal; tails = x.shows.tails; gains = gains };
       stands = tt;
-      did = record { checked = d.checked; legal = d.legal; same_text = d.same_text; input_left = d.input_left; one = d.one; paid = d.paid; tails = d.tails };
+      stands_in_code = tt;
+      did = record { checked = d.checked; stands = d.stands; legal = d.legal; same_text = d.same_text; input_left = d.input_left; one = d.one; paid = d.paid; tails = d.tails };
       counted = λ wide some. let c = x.counted wide some in record { within = c.within; begun = c.begun; threads = c.threads; units = c.units; work = c.work };
       mains = x.mains;
       faulted = λ k. cc;

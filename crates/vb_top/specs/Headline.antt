@@ -22,7 +22,7 @@ use Rattle.vb_top.specs.Words.{file_of_words}
 use Rattle.vb_bind.specs.Grammar.{widest}
 use Rattle.vb_top.specs.Programs.{IsProgram, LeastBroken}
 use Rattle.vb_top.specs.Answers.{status_of, line_of, Tells}
-use Rattle.vb_top.specs.Reports.{ShowsRun, StopStandsIn, CodeRan, Counts, AsksWriting, RanProgram}
+use Rattle.vb_top.specs.Reports.{ShowsRun, StopStandsIn, StopStandsInCode, CodeRan, Counts, AsksWriting, RanProgram}
 
 -- the longest file, in bytes
 abbrev pub longest_file : ℕ
@@ -167,16 +167,17 @@ ConsoleLines call file (Some r) runs = ShowsRun call.input call.out_old call.out
 
 -- STOP STANDS
 
+-- The stop stands in the run of the program, and in that of the code.
 abbrev pub StopStands : (call : Call) (file : List ℕ) (report : Option Report) → RunsOf call file report → Type 0
 StopStands call file None runs = Unit {0}
-StopStands call file (Some r) runs = StopStandsIn runs.tree r runs.source r.stop
+StopStands call file (Some r) runs = StopStandsIn runs.tree r runs.source r.stop × StopStandsInCode r runs.machine runs.thread runs.steps
 
 -- THE CODE DID IT
 
--- The code's run is as the report says, and the input has left what that run has left.
+-- The code stands for the program, its run is as the report says, and the input has left what that run has left.
 abbrev pub CodeDidIt : (call : Call) (file : List ℕ) (report : Option Report) → RunsOf call file report → Type 0
 CodeDidIt call file None runs = Unit {0}
-CodeDidIt call file (Some r) runs = CodeRan call.input r runs.source runs.machine runs.thread runs.steps × MayBe call.input_after runs.machine.store.input
+CodeDidIt call file (Some r) runs = CodeRan call.input runs.tree r runs.source runs.machine runs.thread runs.steps × MayBe call.input_after runs.machine.store.input
 
 -- NUMBERS
 

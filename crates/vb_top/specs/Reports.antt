@@ -3,10 +3,12 @@ use Rattle.std.specs.Prelude.{◌≡◌, ℕ, ◌+◌, ◌*◌, ◌<◌, ◌≤�
 use Rattle.std.specs.Io.KnownBytes.{Appends}
 use Rattle.vb_io.specs.Causes.{Rose}
 use Rattle.vb_text.specs.Units.{utf8_of}
-use Rattle.vb_threads.specs.Machine.{AsksWrite, begun, taken}
+use Rattle.vb_threads.specs.Machine.{AsksWrite, quiet, begun, taken}
 use Rattle.vb_threads.specs.World.{Thread, World, Run as Legal, opening}
+use Rattle.vb_threads.specs.Stands.{StandsFor}
 use Rattle.vb_threads.specs.Schedule.{Scheduled, schedule_of, AreTails, Shows, ShowsNow, Ended as AllHaveEnded, Uncaught as HasThrown, HeapLimit as NoHeap, Stands}
 use Rattle.vb_value.specs.Store.{Store}
+use Rattle.vb_value.specs.declared.stop.Limits.{Limits}
 use Rattle.vb_value.specs.declared.stop.Stop.{Stop}
 use Rattle.vb_value.specs.declared.stop.Stop.TheVariants.{Ended, Uncaught, HeapLimit, TurnLimit, WriteFault, Memory}
 use Rattle.vb_code.specs.Code.{Code, class_name}
@@ -15,7 +17,7 @@ use Rattle.vb_code.specs.Shapes.{IsChecked}
 use Rattle.vb_bound.specs.Tree.{Tree}
 use Rattle.vb_meaning.specs.Source.{SourceThread, source_machine}
 use Rattle.vb_turns.specs.declared.alone.Run.{Run}
-use Rattle.vb_turns.specs.Ran.{entry_of, AreMains}
+use Rattle.vb_turns.specs.Ran.{entry_of, AreMains, StandsBy}
 use Rattle.vb_top.specs.declared.outcome.Report.{Report}
 
 abbrev pub report_with : Code → Run → Stop → Report
@@ -27,6 +29,10 @@ turn_limit = 10000000
 
 abbrev pub heap_limit : ℕ
 heap_limit = 4194304
+
+-- the limits of a run for which the words give none
+abbrev pub limits : Limits
+limits = record { turns = turn_limit; heap = heap_limit }
 
 -- what out has gained: the console text of the run, and at a write fault a proper front of the next text beside
 abbrev pub Gains : Tree → World SourceThread Store → List ℕ → List ℕ → Stop → (List ℕ → Type 0) → Type 0
@@ -53,10 +59,15 @@ StopStandsIn t r w TurnLimit = (r.turns ≡ turn_limit) × (Stands (source_machi
 StopStandsIn t r w WriteFault = Unit {0}
 StopStandsIn t r w Memory = Unit {0}
 
--- The code is checked, the journal is legal for it, and its run has the same console text and has read nothing. The turns
--- are those up to the last entry and the silent ones since, with which the tails' statements have begun.
-pub record CodeRan (input : List ℕ) (r : Report) (source : World SourceThread Store) (machine : World CodeThread Store) (thread : Thread CodeThread) (steps : ℕ) : Type 0 where
+-- the stop stands in the run of the code, where thread 0 is; at the turn limit no other stop stands there
+abbrev pub StopStandsInCode : Report → World CodeThread Store → Thread CodeThread → ℕ → Type 0
+StopStandsInCode r machine thread steps = StandsBy r.code machine.store (quiet (code_next r.code) steps thread.state) r.turns limits r.stop
+
+-- The code is checked and stands for the program, the journal is legal for it, and its run has the same console text and has
+-- read nothing. The turns are those up to the last entry and the silent ones since, with which the tails' statements have begun.
+pub record CodeRan (input : List ℕ) (t : Tree) (r : Report) (source : World SourceThread Store) (machine : World CodeThread Store) (thread : Thread CodeThread) (steps : ℕ) : Type 0 where
   pub checked : IsChecked r.code
+  pub stands : StandsFor (code_machine r.code) (source_machine t)
   pub legal : Legal (code_machine r.code) (opening (code_machine r.code) input heap_limit) (map entry_of r.journal) machine
   pub same_text : machine.store.console ≡ source.store.console
   pub input_left : machine.store.input ≡ input
@@ -86,7 +97,8 @@ pub record RanProgram (t : Tree) (r : Report) (input : List ℕ) (old new : Opti
   pub steps : ℕ
   pub shows : ShowsRun input old new t r source
   pub stands : StopStandsIn t r source r.stop
-  pub did : CodeRan input r source machine thread steps
+  pub stands_in_code : StopStandsInCode r machine thread steps
+  pub did : CodeRan input t r source machine thread steps
   pub counted : (wide : ℕ) → 1 ≤ wide → Counts r wide source
   pub mains : AreMains r.journal
   pub faulted : r.stop ≡ WriteFault → Rose before now × AsksWriting r machine

@@ -40,11 +40,9 @@ pub record Stage (c : Code) (heap : ℕ) (input : List ℕ) (r : Running) (conso
   pub shown : world.store.console ≡ console
   pub over : world.store.ended ≡ ended
 
--- the same for each input
 abbrev pub IsStage : Code → ℕ → Running → List ℕ → List ℕ → Type 0
 IsStage c heap r console ended = (input : List ℕ) → Stage c heap input r console ended
 
--- the counts of a run are small
 pub record IsSmall (limits : Limits) (r : Running) : Type 0 where
   pub begun : r.settled + r.local.begun ≤ 4294967296 * r.turns
   pub turns : r.turns ≤ limits.turns
@@ -56,7 +54,6 @@ pub record IsFine (c : Code) (limits : Limits) (r : Running) : Type 0 where
   pub small : IsSmall limits r
   pub mains : AreMains r.journal
 
--- what the pause of a silent run says of the run
 abbrev pub PausesNow : Code → Limits → Running → Pause → Type 0
 PausesNow c limits r (AskPause action committed) = (ask_of c action ≡ asked c r.local) × AsksNow c r.local committed
 PausesNow c limits r Spent = (r.turns ≡ limits.turns) × HasStep c r.local
@@ -67,7 +64,6 @@ PausesNow c limits r MemoryPause = Unit {0}
 abbrev pub Leads : Code → Limits → Running → Running → List ℕ → List ℕ → Type 0
 Leads c limits old new more over = (console ended : List ℕ) → IsStage c limits.heap old console ended → IsStage c limits.heap new (console ++ more) (ended ++ over)
 
--- the heap units that an ask takes, and the bytes that it writes
 abbrev pub units_asked : Ask → ℕ
 units_asked (New class units) = units
 units_asked (Write text) = 0
@@ -78,13 +74,11 @@ written_by (New class units) = []
 written_by (Write text) = utf8_of text
 written_by End = []
 
--- the threads that an ask of thread 0 ends
 abbrev pub ended_by : Ask → List ℕ
 ended_by (New class units) = []
 ended_by (Write text) = []
 ended_by End = 0 ∷ []
 
--- the run is as it was
 pub record IsSame (old new : Running) : Type 0 where
   pub local : new.local ≡ old.local
   pub journal : new.journal ≡ old.journal
@@ -92,7 +86,6 @@ pub record IsSame (old new : Running) : Type 0 where
   pub settled : new.settled ≡ old.settled
   pub units : new.units ≡ old.units
 
--- the entry was added, and the sink has the ask's bytes
 pub record Adds (c : Code) (limits : Limits) (old new : Running) (ask : Ask) (before after : Option (List ℕ)) : Type 0 where
   pub leads : Leads c limits old new (written_by ask) (ended_by ask)
   pub fine : IsFine c limits new
@@ -100,7 +93,6 @@ pub record Adds (c : Code) (limits : Limits) (old new : Running) (ask : Ask) (be
   pub going : ended_by ask ≡ [] → new.local.position ≡ HasEnded → ⊥
   pub shows : Appends before after (written_by ask)
 
--- what an ask came to: its entry, or a stop before it
 abbrev pub Performs : Code → Limits → Running → Running → Option (List ℕ) → Option (List ℕ) → ℕ → ℕ → Option Stop → Type 0
 Performs c limits old new before after faults now None = Adds c limits old new (asked c old.local) before after
 Performs c limits old new before after faults now (Some Ended) = ⊥
@@ -110,7 +102,6 @@ Performs c limits old new before after faults now (Some HeapLimit) = IsSame old 
 Performs c limits old new before after faults now (Some WriteFault) = IsSame old new × (text : List ℕ) × (asked c old.local ≡ Write text) × AppendsPart before after (utf8_of text) × Rose faults now
 Performs c limits old new before after faults now (Some Memory) = IsSame old new × Keeps before after
 
--- what writing a text came to
 abbrev pub PutsText : List ℕ → Option (List ℕ) → Option (List ℕ) → ℕ → ℕ → Option Stop → Type 0
 PutsText text before after faults now None = Appends before after (utf8_of text)
 PutsText text before after faults now (Some Ended) = ⊥
@@ -120,7 +111,6 @@ PutsText text before after faults now (Some TurnLimit) = ⊥
 PutsText text before after faults now (Some WriteFault) = AppendsPart before after (utf8_of text) × Rose faults now
 PutsText text before after faults now (Some Memory) = Keeps before after
 
--- what the writing of an action came to
 abbrev pub PutsAll : Action → Option (List ℕ) → Option (List ℕ) → ℕ → ℕ → Option Stop → Type 0
 PutsAll (NewAction class) before after faults now stop = (stop ≡ None) × Appends before after []
 PutsAll (WriteAction text) before after faults now stop = PutsText text before after faults now stop
@@ -139,7 +129,6 @@ pub record Settles (c : Code) (committed : Bool) (more : ℕ) (old new : Running
 abbrev pub HasMore : Code → Limits → Running → Type 0
 HasMore c limits r = HasStep c r.local ⊎ (((committed : Bool) × AsksNow c r.local committed) × (r.units + units_asked (asked c r.local) ≤ limits.heap))
 
--- how a run stands at a stop, after so many bytes more
 abbrev pub EndsBy : Code → Limits → Running → Stop → List ℕ → List ℕ → Option (List ℕ) → Option (List ℕ) → ℕ → ℕ → Type 0
 EndsBy c limits r Ended more over before after faults now = (over ≡ 0 ∷ []) × Appends before after more
 EndsBy c limits r (Uncaught thread class) more over before after faults now = (thread ≡ 0) × (r.local.position ≡ Thrown class) × Appends before after more
@@ -148,7 +137,6 @@ EndsBy c limits r TurnLimit more over before after faults now = (r.turns ≡ lim
 EndsBy c limits r WriteFault more over before after faults now = ((committed : Bool) × AsksNow c r.local committed) × (text : List ℕ) × (asked c r.local ≡ Write text) × (front : List ℕ) × (back : List ℕ) × (utf8_of text ≡ front ++ back) × (0 < length back) × Appends before after (more ++ front) × Rose faults now
 EndsBy c limits r Memory more over before after faults now = Appends before after more
 
--- a run that has stopped
 pub record Ends (c : Code) (limits : Limits) (old r : Running) (stop : Stop) (before after : Option (List ℕ)) (faults now : ℕ) : Type 0 where
   pub more : List ℕ
   pub over : List ℕ
@@ -157,7 +145,6 @@ pub record Ends (c : Code) (limits : Limits) (old r : Running) (stop : Stop) (be
   pub mains : AreMains r.journal
   pub ends : EndsBy c limits r stop more over before after faults now
 
--- a run that goes on
 pub record GoesOn (c : Code) (limits : Limits) (old r : Running) (before after : Option (List ℕ)) : Type 0 where
   pub more : List ℕ
   pub leads : Leads c limits old r more []
@@ -165,7 +152,6 @@ pub record GoesOn (c : Code) (limits : Limits) (old r : Running) (before after :
   pub going : r.local.position ≡ HasEnded → ⊥
   pub shows : Appends before after more
 
--- what a silent run and its ask came to
 abbrev pub Rounds : Code → Limits → Running → Running → Option (List ℕ) → Option (List ℕ) → ℕ → ℕ → Option Stop → Type 0
 Rounds c limits old r before after faults now None = GoesOn c limits old r before after × (old.turns < r.turns)
 Rounds c limits old r before after faults now (Some stop) = Ends c limits old r stop before after faults now

@@ -32,8 +32,7 @@ pub struct Finish {
     pub stop: Stop,
 }
 
-/// A run so far: the thread, the journal, the turns done, the statements begun up to the last committed entry, and the heap
-/// units of all objects made.
+/// A run so far. `settled` are the statements begun up to the last committed entry.
 #[derive(Drop)]
 pub struct Running {
     pub local: Local,
@@ -76,7 +75,6 @@ pub fn run_alone<O: Sink>(alloc: Global, code: &Checked, limits: Limits, out: &m
     }
 }
 
-// Runs from ask to ask to a stop.
 fn run_on<O: Sink>(
     alloc: Global,
     code: &Checked,
@@ -99,7 +97,6 @@ fn run_on<O: Sink>(
     }
 }
 
-// Runs silently to the next ask, and does it. There is a stop where the run does not go on.
 fn round<O: Sink>(
     alloc: Global,
     code: &Checked,
@@ -130,14 +127,12 @@ fn round<O: Sink>(
     }
 }
 
-// Whether an action is the end of its thread.
 fn is_end(action: &Action) -> bool
     ensures { (c : Code) → ended_by (ask_of c action.now) ≡ cond result (0 ∷ []) [] }
 {
     matches!(action, Action::End)
 }
 
-// What is kept of a run that has stopped.
 fn run_of(running: Running) -> Run
     requires { running.settled + running.local.begun < 2 ^ 64 }
     ensures { (result.journal ≡ running.journal) × (result.tails ≡ running.local.begun ∷ []) × (result.turns ≡ running.turns) × (result.begun ≡ running.settled + running.local.begun) × (result.threads ≡ 0) × (result.units ≡ running.units) }
@@ -152,7 +147,6 @@ fn run_of(running: Running) -> Run
     }
 }
 
-// Runs silently to the next pause.
 fn advance(alloc: Global, code: &Checked, limits: Limits, running: &mut Running) -> Pause
     requires fine { IsFine code.now limits running.old }
     requires going { running.old.local.position ≡ Position.Ended → ⊥ }

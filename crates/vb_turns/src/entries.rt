@@ -60,7 +60,6 @@ pub fn perform<O: Sink>(
     }
 }
 
-// The heap units that an action takes.
 fn units_of(code: &Checked, action: &Action) -> u64
     ensures asked { result ≡ units_asked (ask_of code.now action.now) }
     ensures few { result < 2 ^ 32 }
@@ -71,7 +70,6 @@ fn units_of(code: &Checked, action: &Action) -> u64
     }
 }
 
-// Writes what an action writes. Its memory is taken before the first byte.
 fn put<O: Sink>(alloc: Global, action: &Action, out: &mut O) -> Option<Stop>
     ensures puts { PutsAll action.now (O.written out.old) (O.written out.new) (O.faults out.old) (O.faults out.new) result }
     ensures later { O.faults out.old ≤ O.faults out.new }
@@ -82,7 +80,6 @@ fn put<O: Sink>(alloc: Global, action: &Action, out: &mut O) -> Option<Stop>
     }
 }
 
-// Puts a text as UTF-8.
 fn put_text<O: Sink>(alloc: Global, text: &Text, out: &mut O) -> Option<Stop>
     ensures puts { PutsText text.now (O.written out.old) (O.written out.new) (O.faults out.old) (O.faults out.new) result }
     ensures later { O.faults out.old ≤ O.faults out.new }

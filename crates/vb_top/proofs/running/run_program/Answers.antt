@@ -2,8 +2,8 @@ use Rattle.std.proofs.Common.{List, ℕ, Option, sym, subst}
 use Rattle.std.specs.Prelude.{IfSome}
 use Rattle.vb_turns.specs.declared.alone.Run.{Run}
 use Rattle.vb_turns.specs.Ran.{Ran}
-use Rattle.vb_top.specs.Reports.{RanProgram}
-use Rattle.vb_top.proofs.Kept.{limits, ran_program}
+use Rattle.vb_top.specs.Reports.{RanProgram, limits}
+use Rattle.vb_top.proofs.Kept.{ran_program}
 use Rattle.vb_top.proofs.running.run_program.Goals as goal
 
 pub returns-in-Some-clause-kept : goal.returns-in-Some-clause-kept
