@@ -14,6 +14,3 @@ mod unbuilt;
 pub use names::KnownNames;
 pub use program::{ReadErr, one_program, read_program};
 pub use unbuilt::{first_unbuilt, programs_are_built};
-
-#[cfg(test)]
-mod tests;

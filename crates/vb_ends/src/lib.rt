@@ -15,8 +15,3 @@ pub use depth::first_too_deep;
 pub use laws::{blocks_nest, brackets_end, open_blocks_break};
 pub use reading::first_unended;
 pub use role::{Mark, Role, Sort};
-
-#[cfg(test)]
-mod row_tests;
-#[cfg(test)]
-mod tests;

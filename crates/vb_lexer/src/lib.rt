@@ -22,6 +22,3 @@ pub use laws::{
 };
 pub use lines::lex;
 pub use symbols::longest_symbol;
-
-#[cfg(test)]
-mod tests;

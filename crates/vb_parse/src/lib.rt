@@ -10,6 +10,3 @@ mod options;
 
 pub use files::parse;
 pub use vb_parse_expr::ParseErr;
-
-#[cfg(test)]
-mod tests;

@@ -18,6 +18,3 @@ pub use declarator::{bound, declarators, first_name, is_over, over_expression, r
 pub use line::{one_declaration, parse_declaration};
 pub use parts::{is_equal_at, whole_expression};
 pub use vb_parse_expr::ParseErr;
-
-#[cfg(test)]
-mod tests;

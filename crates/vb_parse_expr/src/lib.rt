@@ -24,6 +24,3 @@ pub use parse::{
     primary_begins, read_expression, refusal,
 };
 pub use types::{after_opening_of, read_name, read_type};
-
-#[cfg(test)]
-mod tests;

@@ -16,6 +16,3 @@ mod tries;
 
 pub use stmt::{one_item, parse_stmt};
 pub use vb_parse_expr::ParseErr;
-
-#[cfg(test)]
-mod tests;

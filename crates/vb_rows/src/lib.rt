@@ -13,6 +13,3 @@ mod places;
 
 pub use files::{FileRows, read_rows};
 pub use laws::one_list_of_rows;
-
-#[cfg(test)]
-mod tests;

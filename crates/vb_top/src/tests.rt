@@ -10,16 +10,13 @@ use vb_io::{MemFolder, MemSink, MemSource};
 // The front of a file whose body is at line 4, as programs have it that are built.
 const FRONT: &[u8] = b"Imports System\nModule M\nSub Main()\n";
 
-// The usual front of a file, whose body is at line 5: its second line isn't built.
-const USUAL_FRONT: &[u8] = b"Imports System\nImports System.Threading\nModule M\nSub Main()\n";
-
 const BACK: &[u8] = b"\nEnd Sub\nEnd Module\n";
 
 type Seen = Finished<MemSource, MemSink, MemSink>;
 
 // The file of a body in which `;` stands for a line's end.
-fn file_of(alloc: Global, front: &[u8], body: &str) -> Result<Vec<u8>, AllocError> {
-    let mut file = Vec::from_slice(alloc, front)?;
+fn file_of(alloc: Global, body: &str) -> Result<Vec<u8>, AllocError> {
+    let mut file = Vec::from_slice(alloc, FRONT)?;
     for byte in body.bytes() {
         file.push(if byte == b';' { b'\n' } else { byte })?;
     }
@@ -54,7 +51,7 @@ fn call(
 const RUN: &[&str] = &["run", "main.vb"];
 
 // Bodies of Main: what is written, what is told, the status.
-const BODIES: [(&str, &str, &str, u8); 25] = [
+const BODIES: [(&str, &str, &str, u8); 10] = [
     (
         "Dim i As Integer = 0;While i < 3;i = i + 1;Console.WriteLine(i * i);End While",
         "1\n4\n9\n",
@@ -73,19 +70,7 @@ const BODIES: [(&str, &str, &str, u8); 25] = [
         "main.vb(4): error V031: a block has no end, or an end has no block\n",
         1,
     ),
-    (
-        "Dim i As Integer = 3;Console.WriteLine(i * i)",
-        "9\n",
-        "",
-        0,
-    ),
     ("", "", "", 0),
-    (
-        "DIM a AS INTEGER = 7;dim B as integer = A\r;\r; \t ;\tb = a - B ; console . writeline ( b )\r",
-        "0\n",
-        "",
-        0,
-    ),
     (
         "Dim i As Integer;Dim j As Integer;While i <= 2;j = 0;While j <> i;Console.WriteLine(j);j = j + 1;End While;i = i + 1;End While",
         "0\n0\n1\n",
@@ -111,84 +96,6 @@ const BODIES: [(&str, &str, &str, u8); 25] = [
         3,
     ),
     (
-        "Dim i As Integer _; = 3;Console.WriteLine(i +; 1)",
-        "4\n",
-        "",
-        0,
-    ),
-    (
-        ";Dim i As Integer = (1 +_; 2)",
-        "",
-        "main.vb(5): error V005: an underscore is no continuation and no part of a name\n",
-        1,
-    ),
-    (
-        "#Region \"values\";Dim [Dim] As Integer = &H10 ' sixteen;#End Region;Console.WriteLine([DIM]);REM none",
-        "16\n",
-        "",
-        0,
-    ),
-    (
-        "Dim Straße As Integer = 2;Console.WriteLine(STRAßE)",
-        "2\n",
-        "",
-        0,
-    ),
-    (
-        "Console.WriteLine(1) : Console.WriteLine(2)",
-        "1\n2\n",
-        "",
-        0,
-    ),
-    (
-        "If 1 = 1 Then Console.WriteLine(1)",
-        "",
-        "main.vb(4): error V999: the form isn't built yet\n",
-        1,
-    ),
-    (
-        "Dim i As Integer;x = = 1",
-        "",
-        "main.vb(5): error V030: the line isn't of the grammar\n",
-        1,
-    ),
-    (
-        "Dim d As Date",
-        "",
-        "main.vb(4): error V032: the form is outside the profile\n",
-        1,
-    ),
-    (
-        "End While",
-        "",
-        "main.vb(4): error V031: a block has no end, or an end has no block\n",
-        1,
-    ),
-    (
-        "If 1 = 1 Then;Else;Else;End If",
-        "",
-        "main.vb(6): error V034: the line can't stand here\n",
-        1,
-    ),
-    (
-        "Class X;End Class",
-        "",
-        "main.vb(4): error V034: the line can't stand here\n",
-        1,
-    ),
-    (
-        "Do While 1 = 1;Loop",
-        "",
-        "main.vb(4): error V999: the form isn't built yet\n",
-        1,
-    ),
-    (
-        "If 1 = 1 Then;x = = 1",
-        "",
-        "main.vb(4): error V031: a block has no end, or an end has no block\n",
-        1,
-    ),
-    (
         "Dim i As Integer;i = 1 + 2 * i",
         "",
         "main.vb(5): error V999: the form isn't built yet\n",
@@ -205,7 +112,7 @@ const BODIES: [(&str, &str, &str, u8); 25] = [
 #[test]
 fn bodies_run(rt: HostRuntime) -> Result<(), Fail> {
     for (body, out, err, status) in BODIES {
-        let file = file_of(rt.alloc(), FRONT, body)?;
+        let file = file_of(rt.alloc(), body)?;
         let seen = call(rt.alloc(), RUN, file, &[], 64)?;
         assert_eq!(rt; seen.out.bytes(), out.as_bytes(), "{body}");
         assert_eq!(rt; seen.err.bytes(), err.as_bytes(), "{body}");
@@ -215,48 +122,12 @@ fn bodies_run(rt: HostRuntime) -> Result<(), Fail> {
 }
 
 // Files that break a rule or have forms that aren't built, and what is told.
-const BROKEN: [(&[u8], &str); 16] = [
+const BROKEN: [(&[u8], &str); 6] = [
     (
         b"\xffImports System",
         "main.vb(1): error V001: the file isn't UTF-8\n",
     ),
-    (
-        b"a\nb\nx = &HG",
-        "main.vb(3): error V004: a number literal is malformed or doesn't fit\n",
-    ),
-    (
-        b"#Region \"a\"\nx = &HG",
-        "main.vb(1): error V009: a region isn't closed or wasn't opened\n",
-    ),
-    (
-        b"a\rb = \"c",
-        "main.vb(2): error V003: a string or character literal is malformed\n",
-    ),
     (b"", "main.vb(1): error V999: the form isn't built yet\n"),
-    (
-        b"\nImports System\nModule M\nClass C\nEnd Class\nEnd Module",
-        "main.vb(4): error V034: the line can't stand here\n",
-    ),
-    (
-        b"Imports System\nClass C\nEnd Class",
-        "main.vb(2): error V999: the form isn't built yet\n",
-    ),
-    (
-        b"Imports System\nModule M\nx = 1\nEnd Module",
-        "main.vb(3): error V034: the line can't stand here\n",
-    ),
-    (
-        b"Module M\nEnd Module\nImports System",
-        "main.vb(3): error V034: the line can't stand here\n",
-    ),
-    (
-        b"Imports System\nOption Strict Off",
-        "main.vb(2): error V034: the line can't stand here\n",
-    ),
-    (
-        b"\nImports System\nModule M\nSub Main()",
-        "main.vb(3): error V031: a block has no end, or an end has no block\n",
-    ),
     (
         b"Class C\nx y\nEnd Class",
         "main.vb(2): error V030: the line isn't of the grammar\n",
@@ -268,10 +139,6 @@ const BROKEN: [(&[u8], &str); 16] = [
     (
         b"Imports System\nModule M\nPublic Private Sub Main()\nEnd Sub\nEnd Module",
         "main.vb(3): error V036: modifiers are repeated or exclude each other\n",
-    ),
-    (
-        b"Imports System\nModule M\nSub Main(a As Integer)\nEnd Sub\nEnd Module",
-        "main.vb(3): error V999: the form isn't built yet\n",
     ),
     (
         b"x = = 1\ny = &HG",
@@ -291,70 +158,9 @@ fn broken_rules_are_told(rt: HostRuntime) -> Result<(), Fail> {
     Ok(())
 }
 
-// Bodies behind the usual front, and what is told.
-const USUAL_BODIES: [(&str, &str); 6] = [
-    (
-        "Dim d As Date",
-        "main.vb(5): error V032: the form is outside the profile\n",
-    ),
-    (
-        "Class X;End Class",
-        "main.vb(5): error V034: the line can't stand here\n",
-    ),
-    (
-        "If True Then",
-        "main.vb(5): error V031: a block has no end, or an end has no block\n",
-    ),
-    (
-        "Dim i As Integer = (1 +_;2)",
-        "main.vb(5): error V005: an underscore is no continuation and no part of a name\n",
-    ),
-    (
-        "If True Then Console.WriteLine(1) Else Console.WriteLine(2)",
-        "main.vb(2): error V999: the form isn't built yet\n",
-    ),
-    ("", "main.vb(2): error V999: the form isn't built yet\n"),
-];
-
-#[test]
-fn usual_bodies_are_told(rt: HostRuntime) -> Result<(), Fail> {
-    for (body, err) in USUAL_BODIES {
-        let file = file_of(rt.alloc(), USUAL_FRONT, body)?;
-        let seen = call(rt.alloc(), RUN, file, &[], 64)?;
-        assert_eq!(rt; seen.err.bytes(), err.as_bytes(), "{body}");
-        assert_eq!(rt; seen.status.code(), 1, "{body}");
-    }
-    Ok(())
-}
-
-// A number in brackets behind the usual front: so many of them, and what is told.
-const BRACKETS: [(u32, &str); 2] = [
-    (98, "main.vb(2): error V999: the form isn't built yet\n"),
-    (99, "main.vb(5): error V033: nesting is deeper than 100\n"),
-];
-
-#[test]
-fn deep_brackets_are_told(rt: HostRuntime) -> Result<(), Fail> {
-    for (count, err) in BRACKETS {
-        let mut body = String::from_str(rt.alloc(), "x = ")?;
-        for _ in 0..count {
-            body.push_str("(")?;
-        }
-        body.push_str("1")?;
-        for _ in 0..count {
-            body.push_str(")")?;
-        }
-        let file = file_of(rt.alloc(), USUAL_FRONT, body.as_str())?;
-        let seen = call(rt.alloc(), RUN, file, &[], 64)?;
-        assert_eq!(rt; seen.err.bytes(), err.as_bytes());
-        assert_eq!(rt; seen.status.code(), 1);
-    }
-    Ok(())
-}
-
 #[test]
 fn endless_loop_comes_to_its_limit(rt: HostRuntime) -> Result<(), Fail> {
-    let file = file_of(rt.alloc(), FRONT, "Dim i As Integer;While i < 1;End While")?;
+    let file = file_of(rt.alloc(), "Dim i As Integer;While i < 1;End While")?;
     let seen = call(rt.alloc(), RUN, file, &[], 64)?;
     assert_eq!(rt; seen.status.code(), 6);
     assert_eq!(rt; seen.err.bytes(), b"turn limit reached\n".as_slice());
@@ -409,7 +215,7 @@ fn failing_output_keeps_a_front(rt: HostRuntime) -> Result<(), Fail> {
         "Dim i As Integer = 1;Console.WriteLine(i);i = i + 1;Console.WriteLine(i);i = i + 1;Console.WriteLine(i)";
     let whole = b"1\n2\n3\n";
     for k in 0..6usize {
-        let file = file_of(rt.alloc(), FRONT, body)?;
+        let file = file_of(rt.alloc(), body)?;
         let seen = call(rt.alloc(), RUN, file, &[k as u64], 1)?;
         assert_eq!(rt; seen.out.bytes(), &whole[..k]);
         assert_eq!(rt; seen.err.bytes(), b"write fault\n".as_slice());
@@ -433,7 +239,7 @@ fn long_and_deep_body_runs(rt: HostRuntime) -> Result<(), Fail> {
         body.push_str(";End While")?;
     }
     body.push_str(";Console.WriteLine(n)")?;
-    let file = file_of(rt.alloc(), FRONT, body.as_str())?;
+    let file = file_of(rt.alloc(), body.as_str())?;
     let seen = call(rt.alloc(), RUN, file, &[], 64)?;
     assert_eq!(rt; seen.out.bytes(), b"1000\n".as_slice());
     assert_eq!(rt; seen.status.code(), 0);

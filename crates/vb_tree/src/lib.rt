@@ -8,6 +8,3 @@ mod tree;
 
 pub use laws::one_tree;
 pub use tree::{BuildErr, build};
-
-#[cfg(test)]
-mod tests;
