@@ -1,4 +1,10 @@
 //! Stack code, what it means that code is checked, and the state of one thread that runs it.
+//!
+//! Proved: checked code has no failing place, and the types keep what they say.
+//!
+//! Only tested: nothing.
+//!
+//! Assumed: the definitions of specs/, which say what code means.
 #![tactic(auto)]
 
 mod check;

@@ -6,6 +6,12 @@
 //! A rule has a number, printed as `V` and three digits, and a text. A line of refusal names the
 //! file, the line in it and the rule: `main.vb(3): error V140: the name isn't declared`. Only
 //! [`refusal_line`] takes memory.
+//!
+//! Proved: the table of rules, the line that tells one, and the order and the least of broken rules.
+//!
+//! Only tested: that a line is made with ample memory.
+//!
+//! Assumed: nothing but memory and itoa.
 #![tactic(auto)]
 
 mod broken;

@@ -1,5 +1,11 @@
 //! Which blocks of a file are open, where a block has no end or an end has no block, and where a row stands too deep in them (Visual
 //! Basic Language Specification 11.0, 7, 9 and 10).
+//!
+//! Proved: the least line where a block has no end or an end no block, and the least that is too deep.
+//!
+//! Only tested: rows of files, by `vb_tests`.
+//!
+//! Assumed: nothing but memory.
 #![tactic(auto)]
 
 mod blocks;

@@ -1,4 +1,10 @@
 //! One thread of a compiled program: silent runs from ask to ask.
+//!
+//! Proved: a silent run is that of the code, and comes to its ask.
+//!
+//! Only tested: nothing.
+//!
+//! Assumed: nothing but memory.
 #![tactic(auto)]
 
 mod answer;

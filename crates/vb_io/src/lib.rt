@@ -4,6 +4,12 @@
 //! A source, a sink and a folder have a count of faults that never falls, and one answers `Failed`
 //! only where its count rose. At 18,446,744,073,709,551,615, which no run reaches, the count
 //! stays, and `Failed` may come.
+//!
+//! Proved: the objects in memory and the adapters meet the traits; faults only where the count rose.
+//!
+//! Only tested: that the adapters pass the bytes of real files and streams on.
+//!
+//! Assumed: what the system does with files and streams.
 #![tactic(auto)]
 
 ghost use Rattle.std.specs.Prelude.{◌≡◌, ◌<◌, ℕ, List, Option, length};

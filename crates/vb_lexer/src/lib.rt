@@ -1,4 +1,10 @@
 //! From the bytes of a file to its logical lines of tokens.
+//!
+//! Proved: the lines are those of the text, or refused with the least rule, exactly.
+//!
+//! Only tested: rows of texts, by `vb_tests`.
+//!
+//! Assumed: the categories of the crates `unicode` and `ucd_category`.
 #![tactic(auto)]
 
 mod characters;

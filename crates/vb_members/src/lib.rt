@@ -1,4 +1,10 @@
 //! What a row does to the members of a type, to a type and to a file (Visual Basic Language Specification 11.0, 6, 7 and 9).
+//!
+//! Proved: each call does the step of the definitions of `vb_blocks`.
+//!
+//! Only tested: nothing.
+//!
+//! Assumed: nothing but memory.
 #![tactic(auto)]
 
 mod events;

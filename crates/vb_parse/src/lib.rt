@@ -1,5 +1,11 @@
 //! From the logical lines of a file to its syntax tree, or the least rule on lines and blocks that they break (Visual Basic Language
 //! Specification 11.0, 6, 7, 9 and 10).
+//!
+//! Proved: the tree of the lines, or the least rule on lines and blocks that they break, exactly.
+//!
+//! Only tested: rows of files, by `vb_tests`.
+//!
+//! Assumed: nothing but memory.
 #![tactic(auto)]
 
 mod broken;

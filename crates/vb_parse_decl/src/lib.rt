@@ -1,5 +1,11 @@
 //! Reads a logical line of the declarations of types and members, and the parts that it has in common with other lines
 //! (Visual Basic Language Specification 11.0, 4.6, 4.9, 7 and 9).
+//!
+//! Proved: what a line declares, or refused, exactly.
+//!
+//! Only tested: rows of lines, by `vb_tests`.
+//!
+//! Assumed: nothing but memory.
 #![tactic(auto)]
 
 mod ahead;

@@ -1,5 +1,11 @@
 //! Reads an expression, or the name of a type, at the front of a logical line of tokens (Visual Basic Language Specification
 //! 11.0, 7 and 11).
+//!
+//! Proved: what stands at the front of the tokens, or refused, exactly.
+//!
+//! Only tested: rows of expressions and the widest lines, by `vb_tests`.
+//!
+//! Assumed: nothing but memory.
 #![tactic(auto)]
 
 mod ahead;

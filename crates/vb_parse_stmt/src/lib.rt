@@ -1,4 +1,10 @@
 //! Reads what stands on a logical line of tokens.
+//!
+//! Proved: which item a line is, or refused, exactly.
+//!
+//! Only tested: rows of lines, by `vb_tests`.
+//!
+//! Assumed: nothing but memory.
 #![tactic(auto)]
 
 mod block_parts;

@@ -1,4 +1,10 @@
 //! Reads the logical lines of a file into rows, each with the item that stands there (Visual Basic Language Specification 11.0, 1.1).
+//!
+//! Proved: the rows of the lines and the least line that is not of the grammar, exactly.
+//!
+//! Only tested: rows of lines, by `vb_tests`.
+//!
+//! Assumed: nothing but memory.
 #![tactic(auto)]
 
 mod brackets;

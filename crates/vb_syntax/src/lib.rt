@@ -1,4 +1,10 @@
 //! The tokens of Visual Basic, the logical lines that they form, and the syntax trees of those.
+//!
+//! Proved: the texts of words and symbols, and the names that are words in some places.
+//!
+//! Only tested: the tables once.
+//!
+//! Assumed: nothing but memory.
 #![tactic(auto)]
 
 mod declaration;

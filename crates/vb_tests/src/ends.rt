@@ -46,16 +46,26 @@ fn told_of_pair(opened: &str, own: &str, ended: &str) -> &'static str {
     }
 }
 
+// An opener, and behind it the ender of each sort.
+fn ends_by_its_own(
+    rt: &impl Abort,
+    alloc: Global,
+    opened: &str,
+    own: &str,
+) -> Result<(), AllocError> {
+    for (_, ended) in SORTS {
+        let file = file_of(alloc, (opened, ended), "/")?;
+        let seen = told(alloc, Reader::Ends, &file)?;
+        let wanted = told_of_pair(opened, own, ended);
+        assert_eq!(rt; seen.as_str(), wanted, "{file}");
+    }
+    Ok(())
+}
+
 #[test]
 fn a_block_ends_by_its_sort(rt: HostRuntime) -> Result<(), Fail> {
-    let alloc = rt.alloc();
     for (opened, own) in SORTS {
-        for (_, ended) in SORTS {
-            let file = file_of(alloc, (opened, ended), "/")?;
-            let seen = told(alloc, Reader::Ends, &file)?;
-            let wanted = told_of_pair(opened, own, ended);
-            assert_eq!(rt; seen.as_str(), wanted, "{file}");
-        }
+        ends_by_its_own(&rt, rt.alloc(), opened, own)?;
     }
     Ok(())
 }

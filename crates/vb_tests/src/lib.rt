@@ -1,4 +1,10 @@
 //! The tests of the crates from `vb_lexer` to `vb_bind`, each with rows of source texts and what is told of them.
+//!
+//! Proved: each test is safe and ends.
+//!
+//! Only tested: the rows.
+//!
+//! Assumed: that the answers written in the tables are right.
 #![tactic(auto)]
 
 ghost use Rattle.std.specs.Prelude.{IfOk};

@@ -1,4 +1,10 @@
 //! Values, what a thread asks and is answered, and what is kept of a run.
+//!
+//! Proved: what the constructors and the journal keep.
+//!
+//! Only tested: nothing.
+//!
+//! Assumed: nothing but memory.
 #![tactic(auto)]
 
 mod action;
