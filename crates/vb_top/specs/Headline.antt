@@ -1,5 +1,6 @@
 -- What the whole call does. Each part of its promise is a record or a definition of its own.
-use Rattle.std.specs.Prelude.{◌≡◌, ◌⊎◌, ℕ, ◌<◌, ◌≤◌, List, length, Option, Some, None}
+use Rattle.std.specs.Prelude.{◌≡◌, ◌⊎◌, ℕ, ◌<◌, ◌≤◌, List, length, map, Option, Some, None, String, string_bytes}
+use Rattle.std.specs.declared.alloc.Global.{Global}
 use Rattle.std.specs.Io.KnownBytes.{Keeps}
 use Rattle.vb_io.specs.Causes.{Rose}
 use Rattle.vb_io.specs.Files.{Files, file_of, OfTold}
@@ -18,6 +19,8 @@ use Rattle.vb_turns.specs.Ran.{AreMains}
 use Rattle.vb_top.specs.declared.outcome.Answer.{Answer}
 use Rattle.vb_top.specs.declared.outcome.Answer.TheVariants.{Usage, Missing, TooLong, LoadFault, Refused, Memory, Stopped}
 use Rattle.vb_top.specs.declared.outcome.Report.{Report}
+use Rattle.vb_top.specs.declared.outcome.Finished.{Finished}
+use Rattle.vb_top.specs.declared.running.Outcome.{Outcome}
 use Rattle.vb_top.specs.Words.{file_of_words}
 use Rattle.vb_bind.specs.Grammar.{widest}
 use Rattle.vb_top.specs.Programs.{IsProgram, LeastBroken}
@@ -269,6 +272,20 @@ pub record Works (words : List (List ℕ)) (told : Option Files) (file : List �
   pub least : LeastRefusal words told file said
   pub ran : RanBy words told file input old new before now report
 
+-- the same of the objects, by what they tell
+abbrev pub WorksOn : {F O : Type 0} → (F → Option Files) → (F → ℕ) → (O → Option (List ℕ)) → (O → ℕ) → List ℕ → F → F → O → O → Outcome → Type 0
+WorksOn holds fails written faults file folder folder_after out out_after done =
+    (words : List (List ℕ)) → file_of_words words ≡ Some file → (input : List ℕ)
+    → Works words (holds folder) file (fails folder) (fails folder_after) input (written out) (written out_after) (faults out) (faults out_after) done.said done.report (string_bytes done.name)
+
+abbrev pub BuiltOn : {O : Type 0} → (O → Option (List ℕ)) → (O → ℕ) → List ℕ → O → O → Outcome → Type 0
+BuiltOn written faults bytes out out_after done =
+    (input : List ℕ) → Built bytes input (written out) (written out_after) (faults out) (faults out_after) done.said done.report (string_bytes done.name)
+
+abbrev pub ToldOn : {E : Type 0} → (E → Option (List ℕ)) → (E → ℕ) → List ℕ → Outcome → Status → E → E → Type 0
+ToldOn written faults file done status err err_after =
+    Tells (line_of done.said file (string_bytes done.name)) (status_of done.said) status (written err) (written err_after) (faults err) (faults err_after)
+
 -- THE WHOLE CALL
 
 -- said is what the call has come to, about file; name is the full name of a class that was thrown.
@@ -286,3 +303,9 @@ pub record Headline (call : Call) : Type 0 where
   pub schedule : Schedule call.report
   pub cut_short : CutShort call file said runs
   pub complete : Complete call said
+
+-- the same of the objects, by what they tell, for each input that the source may hold
+abbrev pub HeadlineOn : {F I O E : Type 0} → (F → Option Files) → (F → ℕ) → (I → Option (List ℕ)) → (O → Option (List ℕ)) → (O → ℕ) → (E → Option (List ℕ)) → (E → ℕ) → List (String Global) → F → F → I → O → E → Finished I O E → Type 0
+HeadlineOn holds fails left written faults err_written err_faults words folder folder_after input out err done =
+    (bytes : List ℕ) → MayBe (left input) bytes
+    → Headline (call_of (map (λ w. string_bytes w) words) (holds folder) (holds folder_after) (fails folder) (fails folder_after) bytes (left done.input) (written out) (written done.out) (faults out) (faults done.out) (err_written err) (err_written done.err) (err_faults err) (err_faults done.err) done.status done.report)

@@ -1,9 +1,7 @@
 // The top call.
-ghost use Rattle.std.specs.Prelude.{◌≡◌, ◌⊎◌, ◌≤◌, [], List, ℕ, length, map, string_bytes};
-ghost use Rattle.vb_io.specs.Files.{Files};
-ghost use Rattle.vb_top.specs.Words.{file_of_words};
-ghost use Rattle.vb_top.specs.Answers.{status_of as status_of_answer, line_of, IsRefusalLine, Tells};
-ghost use Rattle.vb_top.specs.Headline.{MayBe, Built, Works, Headline, call_of, longest_file};
+ghost use Rattle.std.specs.Prelude.{◌≡◌, ◌⊎◌, ◌≤◌, length};
+ghost use Rattle.vb_top.specs.Answers.{IsRefusalLine};
+ghost use Rattle.vb_top.specs.Headline.{BuiltOn, ToldOn, WorksOn, HeadlineOn, longest_file};
 
 use crate::compiling::{CompileErr, compile};
 use crate::outcome::{Answer, Finished, Report};
@@ -37,7 +35,7 @@ pub fn vb_top<
     err: E,
     gate: &G,
 ) -> Finished<I, O, E>
-    ensures headline { (bytes : List ℕ) → MayBe (I.left input) bytes → Headline (call_of (map (λ w. string_bytes w) words.now) (F.holds folder.old) (F.holds folder.new) (F.faults folder.old) (F.faults folder.new) bytes (I.left result.input) (O.written out) (O.written result.out) (O.faults out) (O.faults result.out) (E.written err) (E.written result.err) (E.faults err) (E.faults result.err) result.status result.report) }
+    ensures headline { HeadlineOn F.holds F.faults I.left O.written O.faults E.written E.faults words.now folder.old folder.new input out err result }
     ensures input_stays { result.input ≡ input }
 {
     let _ = rt;
@@ -54,7 +52,7 @@ pub fn vb_command<F: Folder, I: Source, O: Sink, E: Sink>(
     out: O,
     err: E,
 ) -> Finished<I, O, E>
-    ensures headline { (bytes : List ℕ) → MayBe (I.left input) bytes → Headline (call_of (map (λ w. string_bytes w) words.now) (F.holds folder.old) (F.holds folder.new) (F.faults folder.old) (F.faults folder.new) bytes (I.left result.input) (O.written out) (O.written result.out) (O.faults out) (O.faults result.out) (E.written err) (E.written result.err) (E.faults err) (E.faults result.err) result.status result.report) }
+    ensures headline { HeadlineOn F.holds F.faults I.left O.written O.faults E.written E.faults words.now folder.old folder.new input out err result }
     ensures input_stays { result.input ≡ input }
 {
     let mut out = out;
@@ -84,7 +82,7 @@ fn finish<I: Source, O: Sink, E: Sink>(
     err: E,
 ) -> Finished<I, O, E>
     requires { IsRefusalLine outcome.said file.now outcome.refusal.items }
-    ensures tells { Tells (line_of outcome.said file.now (string_bytes outcome.name)) (status_of_answer outcome.said) result.status (E.written err) (E.written result.err) (E.faults err) (E.faults result.err) }
+    ensures tells { ToldOn E.written E.faults file.now outcome result.status err result.err }
     ensures later { E.faults err ≤ E.faults result.err }
     ensures report { result.report ≡ outcome.report }
     ensures input { result.input ≡ input }
@@ -117,7 +115,7 @@ fn finish<I: Source, O: Sink, E: Sink>(
 
 // Loads, compiles and runs a file.
 fn work<F: Folder, O: Sink>(alloc: Global, file: &str, folder: &mut F, out: &mut O) -> Outcome
-    ensures works { (words : List (List ℕ)) → file_of_words words ≡ Some file.now → (input : List ℕ) → Works words (F.holds folder.old) file.now (F.faults folder.old) (F.faults folder.new) input (O.written out.old) (O.written out.new) (O.faults out.old) (O.faults out.new) result.said result.report (string_bytes result.name) }
+    ensures works { WorksOn F.holds F.faults O.written O.faults file.now folder.old folder.new out.old out.new result }
     ensures line { IsRefusalLine result.said file.now result.refusal.items }
     ensures kept { F.holds folder.new ≡ F.holds folder.old }
     ensures folder_later { F.faults folder.old ≤ F.faults folder.new }
@@ -170,7 +168,7 @@ fn refused(alloc: Global, file: &str, refusal: Refusal) -> Outcome
 // Compiles and runs the bytes of a file.
 fn build<O: Sink>(alloc: Global, file: &str, bytes: &[u8], out: &mut O) -> Outcome
     requires { length bytes.now ≤ longest_file }
-    ensures built { (input : List ℕ) → Built bytes.now input (O.written out.old) (O.written out.new) (O.faults out.old) (O.faults out.new) result.said result.report (string_bytes result.name) }
+    ensures built { BuiltOn O.written O.faults bytes.now out.old out.new result }
     ensures line { IsRefusalLine result.said file.now result.refusal.items }
     ensures later { O.faults out.old ≤ O.faults out.new }
 {
