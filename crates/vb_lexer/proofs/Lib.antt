@@ -19,3 +19,4 @@ pub mod Unique
 pub mod Spelling
 pub mod Beginnings
 pub mod Longest
+pub mod Taken

@@ -63,7 +63,7 @@ take_next n x [] e = cc
 take_next zero x (c ∷ cs) e = ap (λ d. d ∷ []) (char_code c x e)
 take_next (suc n) x (c ∷ cs) e = ap (λ l. c ∷ l) (take_next n x cs e)
 
-char_behind : (text : List Character) (i : ℕ) → char_at text (suc i) ≡ char_at (drop 1 text) i
+pub char_behind : (text : List Character) (i : ℕ) → char_at text (suc i) ≡ char_at (drop 1 text) i
 char_behind [] i = refl
 char_behind (c ∷ cs) i = refl
 
@@ -74,7 +74,7 @@ front_is (c ∷ cs) x e = ap (λ d. d ∷ cs) e
 
 -- WORDS
 
-word_covers : (text front back : List Character) → text ≡ front ++ back → IsIdentifier front → length front ≤ name_len text
+pub word_covers : (text front back : List Character) → text ≡ front ++ back → IsIdentifier front → length front ≤ name_len text
 word_covers text front back e id =
     subst (λ l. length front ≤ run_len is_name_part l) (sym e) (run_covers is_name_part front back id.1)
 
@@ -204,11 +204,11 @@ number_covers base text front back l s same e =
 number_text_is : (text front back : List Character) (l : IntegerLiteral) (s : IsInteger l front) → text ≡ front ++ back → text ≡ s.mark ++ (s.digits ++ (s.suffix ++ back))
 number_text_is text front back l s e = e ∙ ap (λ f. f ++ back) s.stands ∙ number_text s.mark s.digits s.suffix back
 
-number_class : (text front back : List Character) (l : IntegerLiteral) (s : IsInteger l front) → text ≡ front ++ back → first_class text ≡ base_class s.base
+pub number_class : (text front back : List Character) (l : IntegerLiteral) (s : IsInteger l front) → text ≡ front ++ back → first_class text ≡ base_class s.base
 number_class text front back l s e =
     ap (λ t. first_class t) (number_text_is text front back l s e) ∙ number_begins s.base s.mark s.digits (s.suffix ++ back) s.marked s.some s.are_digits
 
-number_starts : (text front back : List Character) (l : IntegerLiteral) (s : IsInteger l front) → text ≡ front ++ back → starts (base_mark s.base) text ≡ true
+pub number_starts : (text front back : List Character) (l : IntegerLiteral) (s : IsInteger l front) → text ≡ front ++ back → starts (base_mark s.base) text ≡ true
 number_starts text front back l s e =
     ap (λ t. starts (base_mark s.base) t) (number_text_is text front back l s e) ∙ word_starts (base_mark s.base) s.mark (s.digits ++ (s.suffix ++ back)) s.marked
 
@@ -308,7 +308,7 @@ is_octal Decimal text e m o = cc
 is_octal Hexadecimal text e m o = absurd (marks_apart text m o)
 is_octal Octal text e m o = refl
 
-is_neither : (base : Base) (text : List Character) → base_class base ≡ class.Ampersand → starts (base_mark base) text ≡ true → starts (codes "&h") text ≡ false → starts (codes "&o") text ≡ false → ⊥
+pub is_neither : (base : Base) (text : List Character) → base_class base ≡ class.Ampersand → starts (base_mark base) text ≡ true → starts (codes "&h") text ≡ false → starts (codes "&o") text ≡ false → ⊥
 is_neither Decimal text e m h o = cc
 is_neither Hexadecimal text e m h o = both_ways (starts (codes "&h") text) h m
 is_neither Octal text e m h o = both_ways (starts (codes "&o") text) o m

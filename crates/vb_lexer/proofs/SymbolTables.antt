@@ -31,11 +31,11 @@ abbrev longer_first : List Symbol → Bool
 longer_first [] = true
 longer_first (x ∷ xs) = none_longer (length (symbol_text x)) xs && longer_first xs
 
-abbrev has_text : List ℕ → List Symbol → Bool
+abbrev pub has_text : List ℕ → List Symbol → Bool
 has_text t [] = false
 has_text t (x ∷ xs) = bytes_eq t (symbol_text x) || has_text t xs
 
-each_has_text : (o : Symbol) → has_text (symbol_text o) symbols ≡ true
+pub each_has_text : (o : Symbol) → has_text (symbol_text o) symbols ≡ true
 each_has_text sign.Plus = refl
 each_has_text _ = refl
 

@@ -8,6 +8,7 @@ use Rattle.vb_syntax.specs.declared.tokens.IntegerType.{IntegerType}
 use Rattle.vb_syntax.specs.declared.tokens.IntegerLiteral.{IntegerLiteral}
 use Rattle.vb_lexer.specs.declared.piece.Piece.{Piece}
 use Rattle.vb_lexer.specs.declared.piece.Piece.TheVariants as piece
+use Rattle.vb_lexer.specs.declared.piece.Fault.TheVariants as broken
 use Rattle.vb_lexer.specs.declared.piece.Base.{Base}
 use Rattle.vb_lexer.specs.declared.piece.Base.TheVariants.{Decimal, Hexadecimal, Octal}
 use Rattle.vb_lexer.specs.Characters.{Character, is_char, is_line_end, is_name_part, class_of, is_readable}
@@ -79,6 +80,15 @@ Spells dot piece.Text cs = (content : List Character) × IsQuoted content [] cs 
 Spells dot (piece.Char u) cs = (content end : List Character) × IsQuoted content end cs × AreWord (codes "c") end × (units_of content ≡ u ∷ [])
 Spells dot (piece.Symbol s) cs = AreWord (symbol_text s) cs
 Spells dot p cs = ⊥
+
+-- a piece that may stand where a token begins: the comment of REM, and the places of rules that are told of the whole word, number or literal
+abbrev pub stands_instead : Piece → Bool
+stands_instead piece.Comment = true
+stands_instead (piece.Fault broken.NotUtf8) = true
+stands_instead (piece.Fault broken.TextLiteral) = true
+stands_instead (piece.Fault broken.NumberLiteral) = true
+stands_instead (piece.Fault broken.LongName) = true
+stands_instead p = false
 
 -- the part's characters stand at the front of the text and are a token of its sort, and no longer front is a token of any sort
 pub record IsLongest (dot : Bool) (text : List Character) (p : Part) : Type 0 where

@@ -1,12 +1,13 @@
 // What callers' proofs may hold of the lines of a file.
-ghost use Rattle.std.specs.Prelude.{◌≡◌, ◌∷◌, ℕ, true, List};
+ghost use Rattle.std.specs.Prelude.{◌≡◌, ◌∷◌, ◌++◌, ◌||◌, ℕ, true, List};
 ghost use Rattle.vb_text.specs.Names.{AreApart, Extends};
 ghost use Rattle.vb_syntax.specs.declared.tokens.Line.{Line};
 ghost use Rattle.vb_lexer.specs.Characters.{Character};
 ghost use Rattle.vb_lexer.specs.declared.piece.Before.{Before};
+ghost use Rattle.vb_lexer.specs.declared.piece.Piece.{Piece};
 ghost use Rattle.vb_lexer.specs.Pieces.{Part, Falls, file_front, spelled};
 ghost use Rattle.vb_lexer.specs.Lines.{Lexed, LexedFrom, Breaks, is_token};
-ghost use Rattle.vb_lexer.specs.Longest.{IsLongest};
+ghost use Rattle.vb_lexer.specs.Longest.{Spells, IsLongest, stands_instead};
 
 /// A law for callers' proofs: a file is its logical lines in one way, so bytes have at most one list of lines with the
 /// names of a table. It does nothing.
@@ -43,4 +44,10 @@ pub fn lines_stay()
 /// is, and no longer front of the text is a token of any sort; so is each further one in what stands behind. It does nothing.
 pub fn longest_token()
     ensures { (before : Before) (text : List Character) (first : Part) (others : List Part) → Falls before text (first ∷ others) → is_token first.piece ≡ true → IsLongest before.dot text first }
+{}
+
+/// A law for callers' proofs: where a token stands at the front of a text, the first piece is a token, the comment of `REM`,
+/// or a place that breaks the rule on numbers, literals, bytes that are no UTF-8 or long names. It does nothing.
+pub fn token_taken()
+    ensures { (before : Before) (text : List Character) (first : Part) (others : List Part) (other : Piece) (front behind : List Character) → Falls before text (first ∷ others) → text ≡ front ++ behind → Spells before.dot other front → (is_token first.piece || stands_instead first.piece) ≡ true }
 {}

@@ -25,6 +25,7 @@ mod token;
 pub use error::LexErr;
 pub use laws::{
     lines_or_refusal, lines_stay, longest_token, one_reading, one_refusal, one_table, pieces_spell,
+    token_taken,
 };
 pub use lines::lex;
 pub use symbols::longest_symbol;
