@@ -1,4 +1,5 @@
 // A text read by one of the calls of the crates below, and what is told of it.
+ghost use Rattle.vb_syntax.specs.ContextualWords.{OptionsApart};
 
 use crate::tell::{tell_lex_error, tell_parse_error};
 use crate::tell_declarations::tell_declaration;
@@ -201,7 +202,9 @@ fn tell_read_rows(
     names: &mut NameTable,
     words: &ContextualWords,
     lines: &[Line],
-) -> Result<(), AllocError> {
+) -> Result<(), AllocError>
+    requires { OptionsApart words.now }
+{
     let found = read_rows(*out.allocator(), words, lines)?;
     let done = tell_rows(out, names, &found);
     drop(found);
@@ -216,7 +219,9 @@ fn tell_first(out: &mut String, line: Option<u32>) -> Result<(), AllocError> {
     }
 }
 
-fn tell_ends(out: &mut String, words: &ContextualWords, lines: &[Line]) -> Result<(), AllocError> {
+fn tell_ends(out: &mut String, words: &ContextualWords, lines: &[Line]) -> Result<(), AllocError>
+    requires { OptionsApart words.now }
+{
     let alloc = *out.allocator();
     let found = read_rows(alloc, words, lines)?;
     let first = first_unended(alloc, found.rows.as_slice());
@@ -233,7 +238,9 @@ fn tell_built(out: &mut String, answer: &Result<SourceFile, BuildErr>) -> Result
     }
 }
 
-fn tell_tree(out: &mut String, words: &ContextualWords, lines: &[Line]) -> Result<(), AllocError> {
+fn tell_tree(out: &mut String, words: &ContextualWords, lines: &[Line]) -> Result<(), AllocError>
+    requires { OptionsApart words.now }
+{
     let alloc = *out.allocator();
     let FileRows { rows, .. } = read_rows(alloc, words, lines)?;
     let answer = build(alloc, FILE, rows);
@@ -249,7 +256,9 @@ fn tell_parsed(out: &mut String, answer: &Result<SourceFile, ParseErr>) -> Resul
     }
 }
 
-fn tell_file(out: &mut String, words: &ContextualWords, lines: &[Line]) -> Result<(), AllocError> {
+fn tell_file(out: &mut String, words: &ContextualWords, lines: &[Line]) -> Result<(), AllocError>
+    requires { OptionsApart words.now }
+{
     let answer = parse(*out.allocator(), words, PARSED, lines);
     let done = tell_parsed(out, &answer);
     drop(answer);
@@ -351,7 +360,9 @@ fn tell_whole(
     known: &KnownNames,
     words: &ContextualWords,
     lines: &[Line],
-) -> Result<(), AllocError> {
+) -> Result<(), AllocError>
+    requires { OptionsApart words.now }
+{
     let answer = parse(*out.allocator(), words, PARSED, lines);
     let done = tell_bound(out, known, &answer);
     drop(answer);
