@@ -50,8 +50,8 @@ fn told_of_pair(opened: &str, own: &str, ended: &str) -> &'static str {
 fn ends_by_its_own(
     rt: &impl Abort,
     alloc: Global,
-    opened: &str,
-    own: &str,
+    opened: &'static str,
+    own: &'static str,
 ) -> Result<(), AllocError> {
     for (_, ended) in SORTS {
         let file = file_of(alloc, (opened, ended), "/")?;
