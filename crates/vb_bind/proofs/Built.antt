@@ -1,20 +1,11 @@
 -- A program has no form that isn't one of a program's.
 use Rattle.std.proofs.Common.{◌≡◌, inl, inr, ⊎_elim, ℕ, List, [], ◌∷◌, ◌++◌, Option, refl, sym, subst, ◌∙◌}
 use Rattle.vb_text.specs.declared.names.Name.{Name}
-use Rattle.vb_syntax.specs.declared.expression.Expr.{Expr as SyntaxExpr}
-use Rattle.vb_syntax.specs.declared.statement.Statement.{Statement as SyntaxStatement}
+use Rattle.vb_syntax.specs.declared.{expression.Expr.Expr as SyntaxExpr, statement.Statement.Statement as SyntaxStatement, declaration.{OptionStatement.OptionStatement, SourceFile.SourceFile}}
 use Rattle.vb_syntax.specs.declared.statement.StatementForm.TheVariants as form
-use Rattle.vb_syntax.specs.declared.declaration.OptionStatement.{OptionStatement}
-use Rattle.vb_syntax.specs.declared.declaration.SourceFile.{SourceFile}
-use Rattle.vb_bound.specs.declared.tree.Operand.{Operand}
-use Rattle.vb_bound.specs.declared.tree.Line.{Line}
-use Rattle.vb_bound.specs.declared.tree.Line.TheVariants.{EndWhile}
-use Rattle.vb_bound.specs.Tree.{Block, Done, Then, Loop, Tree, lines_of}
-use Rattle.vb_bind.specs.declared.names.KnownNames.{KnownNames}
-use Rattle.vb_bind.specs.Grammar.{test_tree, dim_form, AreDims, IsBlockOf, AreFitLines, AreFitInitials, IsProgramOf, IsBuiltForm, dim, statement, loop, HasUnbuiltStatement, itself, inside, behind, HasOne, IsUnbuiltImports, HasUnbuiltMember, HasUnbuiltType, HasUnbuiltForm}
-use Rattle.vb_bind.proofs.Nested.{while_is, no_while}
-use Rattle.vb_bind.proofs.Outside.{members_made, main_made}
-use Rattle.vb_bind.proofs.Least.{none_of_none, split_unbuilt, at_main, at_module}
+use Rattle.vb_bound.specs.{declared.tree.{Operand.Operand, Line.{Line, TheVariants.EndWhile}}, Tree.{Block, Done, Then, Loop, Tree, lines_of}}
+use Rattle.vb_bind.specs.{declared.names.KnownNames.KnownNames, Grammar.{test_tree, dim_form, AreDims, IsBlockOf, AreFitLines, AreFitInitials, IsProgramOf, IsBuiltForm, dim, statement, loop, HasUnbuiltStatement, itself, inside, behind, HasOne, IsUnbuiltImports, HasUnbuiltMember, HasUnbuiltType, HasUnbuiltForm}}
+use Rattle.vb_bind.proofs.{Nested.{while_is, no_while}, Outside.{members_made, main_made}, Least.{none_of_none, split_unbuilt, at_main, at_module}}
 
 fit_split : (xs ys : List Line) → AreFitLines (xs ++ ys) → AreFitLines xs × AreFitLines ys
 fit_split [] ys f = (tt, f)

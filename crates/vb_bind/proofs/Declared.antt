@@ -5,32 +5,17 @@ use Rattle.vb_text.specs.declared.names.Name.{Name}
 use Rattle.vb_syntax.specs.declared.types.PrimitiveTypeName.TheVariants as primitive
 use Rattle.vb_syntax.specs.declared.types.BuiltInTypeName.TheVariants as built_in
 use Rattle.vb_syntax.specs.declared.types.SimpleTypeName.TheVariants as simple
-use Rattle.vb_syntax.specs.declared.types.TypeName.{TypeName}
+use Rattle.vb_syntax.specs.declared.{types.TypeName.TypeName, expression.{Expr.Expr as SyntaxExpr, VariableInitializer.VariableInitializer}, declarator.{VariableIdentifier.VariableIdentifier, VariableModifier.VariableModifier, Declarator.Declarator}, statement.{Statement.Statement as SyntaxStatement, StatementForm.StatementForm}}
 use Rattle.vb_syntax.specs.declared.types.TypeName.TheVariants as type_name
-use Rattle.vb_syntax.specs.declared.expression.Expr.{Expr as SyntaxExpr}
 use Rattle.vb_syntax.specs.declared.expression.Expr.TheVariants as tree
-use Rattle.vb_syntax.specs.declared.expression.VariableInitializer.{VariableInitializer}
 use Rattle.vb_syntax.specs.declared.expression.VariableInitializer.TheVariants as init
-use Rattle.vb_syntax.specs.declared.declarator.VariableIdentifier.{VariableIdentifier}
-use Rattle.vb_syntax.specs.declared.declarator.VariableModifier.{VariableModifier}
 use Rattle.vb_syntax.specs.declared.declarator.VariableModifier.TheVariants as modifier
-use Rattle.vb_syntax.specs.declared.declarator.Declarator.{Declarator}
 use Rattle.vb_syntax.specs.declared.declarator.Declarator.TheVariants as declarator
 use Rattle.vb_syntax.specs.declared.statement.LocalModifier.TheVariants as local
-use Rattle.vb_syntax.specs.declared.statement.Statement.{Statement as SyntaxStatement}
-use Rattle.vb_syntax.specs.declared.statement.StatementForm.{StatementForm}
 use Rattle.vb_syntax.specs.declared.statement.StatementForm.TheVariants as form
-use Rattle.vb_bound.specs.declared.tree.LocalId.{LocalId}
-use Rattle.vb_bound.specs.declared.tree.Operand.{Operand}
-use Rattle.vb_bound.specs.declared.tree.Operand.TheVariants.{Local, Number}
-use Rattle.vb_bound.specs.declared.tree.Statement.{Statement}
-use Rattle.vb_bound.specs.declared.tree.Statement.TheVariants.{Assign, WriteLine}
-use Rattle.vb_bound.specs.Tree.{Block, Done, Then, Loop, IsOperandOf, IsInitialOf, AreLocals}
-use Rattle.vb_bind.specs.declared.names.KnownNames.{KnownNames}
-use Rattle.vb_bind.specs.Grammar.{operand_tree, initial_tree, statement_form, dim_form, AreDims, IsBlockOf, IsIn, IsName, AreDistinctNames, IsFitInitial, AreFitInitials}
-use Rattle.vb_bind.specs.Parsing.{and_then, is_one_of, is_free, number_read, name_read, is_new, local_from, operand_read, initial_read, is_integer_type, is_plain, variable_read, declarator_read, declared_read, dim_read, Front, front, dim_or, front_read}
-use Rattle.vb_bind.proofs.Trees.{then_is, if_is, not_is, any_none, any_made, integer_type_is, plain_is}
-use Rattle.vb_bind.proofs.OneStatement.{local_sound, operand_sound, get_some, operand_made}
+use Rattle.vb_bound.specs.{declared.tree.{LocalId.LocalId, Operand.{Operand, TheVariants.{Local, Number}}, Statement.{Statement, TheVariants.{Assign, WriteLine}}}, Tree.{Block, Done, Then, Loop, IsOperandOf, IsInitialOf, AreLocals}}
+use Rattle.vb_bind.specs.{declared.names.KnownNames.KnownNames, Grammar.{operand_tree, initial_tree, statement_form, dim_form, AreDims, IsBlockOf, IsIn, IsName, AreDistinctNames, IsFitInitial, AreFitInitials}, Parsing.{and_then, is_one_of, is_free, number_read, name_read, is_new, local_from, operand_read, initial_read, is_integer_type, is_plain, variable_read, declarator_read, declared_read, dim_read, Front, front, dim_or, front_read}}
+use Rattle.vb_bind.proofs.{Trees.{then_is, if_is, not_is, any_none, any_made, integer_type_is, plain_is}, OneStatement.{local_sound, operand_sound, get_some, operand_made}}
 
 pub get_front : (ns more : List Name) (k : ℕ) (s : Name) → slice_get ns k ≡ Some s → slice_get (ns ++ more) k ≡ Some s
 get_front [] more k s e = absurd cc

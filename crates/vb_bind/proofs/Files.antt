@@ -2,16 +2,10 @@
 use Rattle.std.proofs.Common.{◌≡◌, suc, List, [], ◌∷◌, ◌++◌, length, Option, Some, refl, sym, ap, subst, ◌∙◌}
 use Rattle.std.specs.Prelude.{Result, Ok, Err, IfOk}
 use Rattle.vb_text.specs.declared.names.Name.{Name}
-use Rattle.vb_syntax.specs.declared.statement.Statement.{Statement as SyntaxStatement}
-use Rattle.vb_syntax.specs.declared.declaration.SourceFile.{SourceFile}
-use Rattle.vb_bound.specs.declared.tree.Operand.{Operand}
-use Rattle.vb_bound.specs.Tree.{Block, Tree, outline, lines_of, AreLines, IsBound}
-use Rattle.vb_bind.specs.declared.names.KnownNames.{KnownNames}
-use Rattle.vb_bind.specs.Grammar.{AreDims, IsIn, AreDistinctNames, AreFitInitials, IsFileOf, IsProgramOf}
-use Rattle.vb_bind.specs.Parsing.{Front, front, front_read, file_read, IsGoodBlock, IsNoBlock}
-use Rattle.vb_bind.proofs.Nested.{one_block}
-use Rattle.vb_bind.proofs.Declared.{distinct_of, front_sound, front_made, stop_read}
-use Rattle.vb_bind.proofs.Outside.{file_sound, file_made}
+use Rattle.vb_syntax.specs.declared.{statement.Statement.Statement as SyntaxStatement, declaration.SourceFile.SourceFile}
+use Rattle.vb_bound.specs.{declared.tree.Operand.Operand, Tree.{Block, Tree, outline, lines_of, AreLines, IsBound}}
+use Rattle.vb_bind.specs.{declared.names.KnownNames.KnownNames, Grammar.{AreDims, IsIn, AreDistinctNames, AreFitInitials, IsFileOf, IsProgramOf}, Parsing.{Front, front, front_read, file_read, IsGoodBlock, IsNoBlock}}
+use Rattle.vb_bind.proofs.{Nested.one_block, Declared.{distinct_of, front_sound, front_made, stop_read}, Outside.{file_sound, file_made}}
 
 -- as many names as locals
 dims_length : (all ns : List Name) (ds : List (Option Operand)) (ss : List SyntaxStatement) → AreDims all ns ds ss → length ns ≡ length ds

@@ -3,21 +3,10 @@ use Rattle.std.proofs.Common.{◌≡◌, ◌⊎◌, inl, inr, ⊎_elim, ℕ, ◌
 use Rattle.std.proofs.lemmas.List.{take_more, get_or_default}
 use Rattle.std.proofs.lemmas.Bool.Decides.{nat_tests}
 use Rattle.std.specs.Prelude.{nat_le, if◌then◌else◌}
-use Rattle.vb_syntax.specs.declared.expression.Expr.{Expr as SyntaxExpr}
-use Rattle.vb_syntax.specs.declared.statement.Statement.{Statement as SyntaxStatement}
+use Rattle.vb_syntax.specs.declared.{expression.Expr.Expr as SyntaxExpr, statement.Statement.Statement as SyntaxStatement, declaration.{ImportsStatement.ImportsStatement, Member.Member, TypeDeclaration.TypeDeclaration, OptionStatement.OptionStatement, SourceFile.SourceFile}}
 use Rattle.vb_syntax.specs.declared.statement.StatementForm.TheVariants as form
-use Rattle.vb_syntax.specs.declared.declaration.ImportsStatement.{ImportsStatement}
-use Rattle.vb_syntax.specs.declared.declaration.Member.{Member}
-use Rattle.vb_syntax.specs.declared.declaration.TypeDeclaration.{TypeDeclaration}
-use Rattle.vb_syntax.specs.declared.declaration.OptionStatement.{OptionStatement}
-use Rattle.vb_syntax.specs.declared.declaration.SourceFile.{SourceFile}
-use Rattle.vb_bind.specs.declared.names.KnownNames.{KnownNames}
-use Rattle.vb_bind.specs.Grammar.{IsBuiltForm, HasUnbuiltStatement, itself, inside, behind, HasOne, IsUnbuiltImports, HasUnbuiltMember, no_main, in_main, HasUnbuiltType, no_module, in_module, HasUnbuiltForm, IsLeast}
-use Rattle.vb_bind.specs.Parsing.{members_read, main_read, is_form, earlier}
-use Rattle.vb_bind.proofs.Trees.{by_test}
-use Rattle.vb_bind.proofs.Nested.{while_is}
-use Rattle.vb_bind.proofs.Outside.{members_sound, members_made, main_sound, main_made}
-use Rattle.vb_bind.proofs.OneForm.{form_sound, form_made}
+use Rattle.vb_bind.specs.{declared.names.KnownNames.KnownNames, Grammar.{IsBuiltForm, HasUnbuiltStatement, itself, inside, behind, HasOne, IsUnbuiltImports, HasUnbuiltMember, no_main, in_main, HasUnbuiltType, no_module, in_module, HasUnbuiltForm, IsLeast}, Parsing.{members_read, main_read, is_form, earlier}}
+use Rattle.vb_bind.proofs.{Trees.by_test, Nested.while_is, Outside.{members_sound, members_made, main_sound, main_made}, OneForm.{form_sound, form_made}}
 
 -- THE LEAST
 

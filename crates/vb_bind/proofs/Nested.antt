@@ -1,21 +1,10 @@
 -- Blocks: one behind another, the statement at a place, and at most one block of the same statements.
 use Rattle.std.proofs.Common.{◌≡◌, ℕ, zero, suc, ◌<◌, List, [], ◌∷◌, ◌++◌, length, get_or, Some, refl, sym, ap, subst, ◌∙◌, arith, append_assoc}
 use Rattle.vb_text.specs.declared.names.Name.{Name}
-use Rattle.vb_syntax.specs.declared.expression.Expr.{Expr as SyntaxExpr}
-use Rattle.vb_syntax.specs.declared.statement.Statement.{Statement as SyntaxStatement}
-use Rattle.vb_syntax.specs.declared.statement.StatementForm.{out-StatementForm}
-use Rattle.vb_syntax.specs.declared.statement.StatementForm.TheOpen.{StatementForm-F}
+use Rattle.vb_syntax.specs.declared.{expression.Expr.Expr as SyntaxExpr, statement.{Statement.Statement as SyntaxStatement, StatementForm.{out-StatementForm, TheOpen.StatementForm-F, TheVariants.outs-While}}}
 use Rattle.vb_syntax.specs.declared.statement.StatementForm.TheVariants as form
-use Rattle.vb_syntax.specs.declared.statement.StatementForm.TheVariants.{outs-While}
-use Rattle.vb_bound.specs.declared.tree.Condition.{Condition}
-use Rattle.vb_bound.specs.declared.tree.Statement.{Statement}
-use Rattle.vb_bound.specs.declared.tree.Statement.TheVariants.{Assign, WriteLine}
-use Rattle.vb_bound.specs.declared.tree.Line.{Line}
-use Rattle.vb_bound.specs.declared.tree.Line.TheVariants.{Does, While, EndWhile}
-use Rattle.vb_bound.specs.Tree.{Block, Done, Then, Loop, lines_of, IsLineOf, AreLines}
-use Rattle.vb_bind.specs.declared.names.KnownNames.{KnownNames}
-use Rattle.vb_bind.specs.Grammar.{statement_form, test_tree, IsBlockOf, AreDistinctNames, IsMixedLine, AreMixedLines, IsFitLine, AreFitLines}
-use Rattle.vb_bind.specs.Parsing.{FormLayer, statement_read, test_read, IsGoodBlock}
+use Rattle.vb_bound.specs.{declared.tree.{Condition.Condition, Statement.{Statement, TheVariants.{Assign, WriteLine}}, Line.{Line, TheVariants.{Does, While, EndWhile}}}, Tree.{Block, Done, Then, Loop, lines_of, IsLineOf, AreLines}}
+use Rattle.vb_bind.specs.{declared.names.KnownNames.KnownNames, Grammar.{statement_form, test_tree, IsBlockOf, AreDistinctNames, IsMixedLine, AreMixedLines, IsFitLine, AreFitLines}, Parsing.{FormLayer, statement_read, test_read, IsGoodBlock}}
 use Rattle.vb_bind.proofs.OneStatement.{statement_made, test_made}
 
 -- FORMS

@@ -8,36 +8,16 @@ use Rattle.vb_syntax.specs.declared.types.BuiltInTypeName.TheVariants as built_i
 use Rattle.vb_syntax.specs.declared.types.SimpleTypeName.TheVariants as simple
 use Rattle.vb_syntax.specs.declared.types.TypeName.TheVariants as type_name
 use Rattle.vb_syntax.specs.declared.expression.BinaryOperator.TheVariants as binary
-use Rattle.vb_syntax.specs.declared.expression.Expr.{Expr as SyntaxExpr, out-Expr}
-use Rattle.vb_syntax.specs.declared.expression.Expr.TheOpen.{Expr-F}
+use Rattle.vb_syntax.specs.declared.{expression.{Expr.{Expr as SyntaxExpr, out-Expr, TheOpen.Expr-F, TheVariants.{outs-SimpleName, outs-Integer, outs-Binary, outs-Invocation}}, VariableInitializer.VariableInitializer}, declarator.{VariableIdentifier.VariableIdentifier, VariableModifier.VariableModifier, Declarator.Declarator}, statement.{Statement.Statement as SyntaxStatement, StatementForm.{StatementForm, out-StatementForm, roll-StatementForm, roll-out-StatementForm, TheOpen.StatementForm-F, TheVariants.{outs-LocalDeclaration, outs-Assignment, outs-Invocation as outs-Call, outs-While, rolls-LocalDeclaration, rolls-Assignment, rolls-Invocation, rolls-While}}}}
 use Rattle.vb_syntax.specs.declared.expression.Expr.TheVariants as tree
-use Rattle.vb_syntax.specs.declared.expression.Expr.TheVariants.{outs-SimpleName, outs-Integer, outs-Binary, outs-Invocation}
-use Rattle.vb_syntax.specs.declared.expression.VariableInitializer.{VariableInitializer}
 use Rattle.vb_syntax.specs.declared.expression.VariableInitializer.TheVariants as init
-use Rattle.vb_syntax.specs.declared.declarator.VariableIdentifier.{VariableIdentifier}
-use Rattle.vb_syntax.specs.declared.declarator.VariableModifier.{VariableModifier}
 use Rattle.vb_syntax.specs.declared.declarator.VariableModifier.TheVariants as modifier
-use Rattle.vb_syntax.specs.declared.declarator.Declarator.{Declarator}
 use Rattle.vb_syntax.specs.declared.declarator.Declarator.TheVariants as declarator
 use Rattle.vb_syntax.specs.declared.statement.LocalModifier.TheVariants as local
-use Rattle.vb_syntax.specs.declared.statement.Statement.{Statement as SyntaxStatement}
-use Rattle.vb_syntax.specs.declared.statement.StatementForm.{StatementForm, out-StatementForm, roll-StatementForm, roll-out-StatementForm}
-use Rattle.vb_syntax.specs.declared.statement.StatementForm.TheOpen.{StatementForm-F}
 use Rattle.vb_syntax.specs.declared.statement.StatementForm.TheVariants as form
-use Rattle.vb_syntax.specs.declared.statement.StatementForm.TheVariants.{outs-LocalDeclaration, outs-Assignment, outs-Invocation as outs-Call, outs-While, rolls-LocalDeclaration, rolls-Assignment, rolls-Invocation, rolls-While}
-use Rattle.vb_bound.specs.declared.tree.Operand.{Operand}
-use Rattle.vb_bound.specs.declared.tree.Operand.TheVariants.{Local, Number}
-use Rattle.vb_bound.specs.declared.tree.Expr.{Expr}
-use Rattle.vb_bound.specs.declared.tree.Expr.TheVariants.{One, Two}
-use Rattle.vb_bound.specs.declared.tree.Condition.{Condition}
-use Rattle.vb_bound.specs.declared.tree.Statement.{Statement}
-use Rattle.vb_bound.specs.declared.tree.Statement.TheVariants.{Assign, WriteLine}
-use Rattle.vb_bound.specs.declared.tree.Line.TheVariants.{Does, While}
-use Rattle.vb_bind.specs.declared.names.KnownNames.{KnownNames}
-use Rattle.vb_bind.specs.Grammar.{name_at, operand_tree, binary_of, relation_of, expr_tree, statement_form, test_tree, initial_tree, dim_form, IsFit, IsFitExpr, IsFitLine, IsFitInitial, IsBuiltForm, dim, statement, loop}
-use Rattle.vb_bind.specs.Parsing.{Layer, FormLayer, named, number_read, operator_read, relation_read, is_write_line, is_integer_type, is_some, is_operand_form, is_expr_form_at, is_expr_form, is_assign_form, is_argument_form, is_write_form_at, is_write_form, is_test_form_at, is_test_form, is_initial_form, is_variable_form, is_declarator_form, is_dim_form, is_form_at, is_form}
-use Rattle.vb_bind.proofs.Trees.{and_is, named_is, number_is, integer_made, binary_is, call_is, integer_type_is, plain_is}
-use Rattle.vb_bind.proofs.OneStatement.{operator_sound, relation_sound, operator_made, relation_made, write_line_tree, write_line_is, write_line_made}
+use Rattle.vb_bound.specs.declared.tree.{Operand.{Operand, TheVariants.{Local, Number}}, Expr.{Expr, TheVariants.{One, Two}}, Condition.Condition, Statement.{Statement, TheVariants.{Assign, WriteLine}}, Line.TheVariants.{Does, While}}
+use Rattle.vb_bind.specs.{declared.names.KnownNames.KnownNames, Grammar.{name_at, operand_tree, binary_of, relation_of, expr_tree, statement_form, test_tree, initial_tree, dim_form, IsFit, IsFitExpr, IsFitLine, IsFitInitial, IsBuiltForm, dim, statement, loop}, Parsing.{Layer, FormLayer, named, number_read, operator_read, relation_read, is_write_line, is_integer_type, is_some, is_operand_form, is_expr_form_at, is_expr_form, is_assign_form, is_argument_form, is_write_form_at, is_write_form, is_test_form_at, is_test_form, is_initial_form, is_variable_form, is_declarator_form, is_dim_form, is_form_at, is_form}}
+use Rattle.vb_bind.proofs.{Trees.{and_is, named_is, number_is, integer_made, binary_is, call_is, integer_type_is, plain_is}, OneStatement.{operator_sound, relation_sound, operator_made, relation_made, write_line_tree, write_line_is, write_line_made}}
 
 some_is : {A : Type 0} (o : Option A) → is_some o ≡ true → (x : A) × (o ≡ Some x)
 some_is None h = absurd cc

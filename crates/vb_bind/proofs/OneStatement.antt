@@ -3,33 +3,13 @@ use Rattle.std.proofs.Common.{◌≡◌, inl, inr, ℕ, zero, suc, ◌+◌, ◌<
 use Rattle.std.specs.Prelude.{if◌then◌else◌, ◌&&◌, slice_get, unwrap_or}
 use Rattle.vb_text.specs.declared.names.Name.{Name}
 use Rattle.vb_syntax.specs.declared.tokens.IntegerType.TheVariants as kind
-use Rattle.vb_syntax.specs.declared.expression.RelationalOperator.{RelationalOperator}
+use Rattle.vb_syntax.specs.declared.{expression.{RelationalOperator.RelationalOperator, BinaryOperator.BinaryOperator, Expr.{Expr as SyntaxExpr, out-Expr, TheOpen.Expr-F, TheVariants.{outs-SimpleName, outs-Integer, outs-Binary, outs-Invocation, outs-MemberAccess}}}, statement.StatementForm.StatementForm}
 use Rattle.vb_syntax.specs.declared.expression.RelationalOperator.TheVariants as relational
-use Rattle.vb_syntax.specs.declared.expression.BinaryOperator.{BinaryOperator}
 use Rattle.vb_syntax.specs.declared.expression.BinaryOperator.TheVariants as binary
-use Rattle.vb_syntax.specs.declared.expression.Expr.{Expr as SyntaxExpr, out-Expr}
-use Rattle.vb_syntax.specs.declared.expression.Expr.TheOpen.{Expr-F}
 use Rattle.vb_syntax.specs.declared.expression.Expr.TheVariants as tree
-use Rattle.vb_syntax.specs.declared.expression.Expr.TheVariants.{outs-SimpleName, outs-Integer, outs-Binary, outs-Invocation, outs-MemberAccess}
-use Rattle.vb_syntax.specs.declared.statement.StatementForm.{StatementForm}
 use Rattle.vb_syntax.specs.declared.statement.StatementForm.TheVariants as form
-use Rattle.vb_bound.specs.declared.tree.LocalId.{LocalId}
-use Rattle.vb_bound.specs.declared.tree.Operand.{Operand}
-use Rattle.vb_bound.specs.declared.tree.Operand.TheVariants.{Local, Number}
-use Rattle.vb_bound.specs.declared.tree.Operator.{Operator}
-use Rattle.vb_bound.specs.declared.tree.Operator.TheVariants.{Add, Sub, Mul}
-use Rattle.vb_bound.specs.declared.tree.Relation.{Relation}
-use Rattle.vb_bound.specs.declared.tree.Relation.TheVariants.{Equal, NotEqual, Less, LessOrEqual, Greater, GreaterOrEqual}
-use Rattle.vb_bound.specs.declared.tree.Expr.{Expr}
-use Rattle.vb_bound.specs.declared.tree.Expr.TheVariants.{One, Two}
-use Rattle.vb_bound.specs.declared.tree.Condition.{Condition}
-use Rattle.vb_bound.specs.declared.tree.Statement.{Statement}
-use Rattle.vb_bound.specs.declared.tree.Statement.TheVariants.{Assign, WriteLine}
-use Rattle.vb_bound.specs.declared.tree.Line.TheVariants.{Does}
-use Rattle.vb_bound.specs.Tree.{IsOperandOf, IsExprOf, IsStatementOf}
-use Rattle.vb_bind.specs.declared.names.KnownNames.{KnownNames}
-use Rattle.vb_bind.specs.Grammar.{name_at, operand_tree, binary_of, relation_of, expr_tree, statement_form, test_tree, IsIn, AreDistinctNames, AreMixed, IsMixedExpr, IsMixedLine, IsFit, IsFitExpr, IsFitLine}
-use Rattle.vb_bind.specs.Parsing.{and_then, Layer, named, is_name_tree, same_name, number_read, local_from, local_read, operand_read, operator_read, relation_from, relation_read, are_mixed, two_operands, condition_operands, two_read, condition_read, expr_at, expr_read, assign_read, is_write_line_at, is_write_line, argument_read, write_at, write_read, statement_read, test_at, test_read}
+use Rattle.vb_bound.specs.{declared.tree.{LocalId.LocalId, Operand.{Operand, TheVariants.{Local, Number}}, Operator.{Operator, TheVariants.{Add, Sub, Mul}}, Relation.{Relation, TheVariants.{Equal, NotEqual, Less, LessOrEqual, Greater, GreaterOrEqual}}, Expr.{Expr, TheVariants.{One, Two}}, Condition.Condition, Statement.{Statement, TheVariants.{Assign, WriteLine}}, Line.TheVariants.Does}, Tree.{IsOperandOf, IsExprOf, IsStatementOf}}
+use Rattle.vb_bind.specs.{declared.names.KnownNames.KnownNames, Grammar.{name_at, operand_tree, binary_of, relation_of, expr_tree, statement_form, test_tree, IsIn, AreDistinctNames, AreMixed, IsMixedExpr, IsMixedLine, IsFit, IsFitExpr, IsFitLine}, Parsing.{and_then, Layer, named, is_name_tree, same_name, number_read, local_from, local_read, operand_read, operator_read, relation_from, relation_read, are_mixed, two_operands, condition_operands, two_read, condition_read, expr_at, expr_read, assign_read, is_write_line_at, is_write_line, argument_read, write_at, write_read, statement_read, test_at, test_read}}
 use Rattle.vb_bind.proofs.Trees.{by_test, then_is, if_is, and_is, same_is, same_self, is_same, others, named_is, name_is, binary_is, call_is, member_is, number_is, integer_made}
 
 -- no operator has two numbers, and each number is an Integer

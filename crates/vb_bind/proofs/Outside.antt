@@ -2,25 +2,11 @@
 use Rattle.std.proofs.Common.{◌≡◌, Bool, true, List, [], ◌∷◌, Option, Some, None, refl, ap, subst, ◌∙◌}
 use Rattle.std.specs.Prelude.{◌&&◌, if◌then◌else◌}
 use Rattle.vb_text.specs.declared.names.Name.{Name}
-use Rattle.vb_syntax.specs.declared.statement.Statement.{Statement as SyntaxStatement}
-use Rattle.vb_syntax.specs.declared.types.TypeParameter.{TypeParameter}
-use Rattle.vb_syntax.specs.declared.declaration.Access.{Access}
-use Rattle.vb_syntax.specs.declared.declaration.ImportsStatement.{ImportsStatement}
-use Rattle.vb_syntax.specs.declared.declaration.Member.{Member}
-use Rattle.vb_syntax.specs.declared.declaration.MemberForm.{MemberForm}
+use Rattle.vb_syntax.specs.declared.{statement.Statement.Statement as SyntaxStatement, types.TypeParameter.TypeParameter, declaration.{Access.Access, ImportsStatement.ImportsStatement, Member.Member, MemberForm.MemberForm, MethodSignature.MethodSignature, Modifier.Modifier, Parameter.Parameter, TypeDeclaration.TypeDeclaration, TypeForm.TypeForm, SourceFile.SourceFile}}
 use Rattle.vb_syntax.specs.declared.declaration.MemberForm.TheVariants as member
-use Rattle.vb_syntax.specs.declared.declaration.MethodSignature.{MethodSignature}
-use Rattle.vb_syntax.specs.declared.declaration.Modifier.{Modifier}
-use Rattle.vb_syntax.specs.declared.declaration.Parameter.{Parameter}
-use Rattle.vb_syntax.specs.declared.declaration.TypeDeclaration.{TypeDeclaration}
-use Rattle.vb_syntax.specs.declared.declaration.TypeForm.{TypeForm}
 use Rattle.vb_syntax.specs.declared.declaration.TypeForm.TheVariants as type_form
-use Rattle.vb_syntax.specs.declared.declaration.SourceFile.{SourceFile}
-use Rattle.vb_bind.specs.declared.names.KnownNames.{KnownNames}
-use Rattle.vb_bind.specs.Grammar.{IsImportsOf, IsModuleOf, IsMainOf, IsFileOf, IsName}
-use Rattle.vb_bind.specs.Parsing.{and_then, name_read, only, is_empty, is_system, members_at, members_read, is_main_signature, main_at, main_read, file_read}
-use Rattle.vb_bind.proofs.Trees.{then_is, if_is, and_is, same_is, same_self}
-use Rattle.vb_bind.proofs.Declared.{name_sound, name_made}
+use Rattle.vb_bind.specs.{declared.names.KnownNames.KnownNames, Grammar.{IsImportsOf, IsModuleOf, IsMainOf, IsFileOf, IsName}, Parsing.{and_then, name_read, only, is_empty, is_system, members_at, members_read, is_main_signature, main_at, main_read, file_read}}
+use Rattle.vb_bind.proofs.{Trees.{then_is, if_is, and_is, same_is, same_self}, Declared.{name_sound, name_made}}
 
 only_is : {X : Type 0} (xs : List X) (x : X) → only xs ≡ Some x → xs ≡ x ∷ []
 only_is [] x e = absurd cc

@@ -3,19 +3,11 @@ use Rattle.std.proofs.Common.{◌≡◌, ℕ, suc, ◌+◌, ◌-◌, ◌<◌, �
 use Rattle.std.proofs.lemmas.List.{take_more}
 use Rattle.std.specs.Prelude.{if◌then◌else◌, Result, Ok, Err, IfOk}
 use Rattle.vb_text.specs.declared.names.Name.{Name}
-use Rattle.vb_syntax.specs.declared.expression.Expr.{Expr as SyntaxExpr}
-use Rattle.vb_syntax.specs.declared.statement.Statement.{Statement as SyntaxStatement}
+use Rattle.vb_syntax.specs.declared.{expression.Expr.Expr as SyntaxExpr, statement.Statement.Statement as SyntaxStatement}
 use Rattle.vb_syntax.specs.declared.statement.StatementForm.TheVariants as form
-use Rattle.vb_bound.specs.declared.tree.Operand.{Operand}
-use Rattle.vb_bound.specs.declared.tree.Condition.{Condition}
-use Rattle.vb_bound.specs.declared.tree.Statement.{Statement}
-use Rattle.vb_bound.specs.declared.tree.Line.TheVariants.{While, EndWhile}
-use Rattle.vb_bound.specs.Tree.{Block, Done, Then, Loop, lines_of, IsInitialOf, IsStatementOf, IsLineOf, AreLocals}
-use Rattle.vb_bind.specs.declared.names.KnownNames.{KnownNames}
-use Rattle.vb_bind.specs.Grammar.{AreDistinctNames, IsBlockOf}
-use Rattle.vb_bind.specs.Parsing.{statement_read, test_read, dim_read, front, dim_or, front_read, is_new, IsGoodBlock, IsNoBlock}
-use Rattle.vb_bind.proofs.OneStatement.{statement_sound, statement_made, test_sound, test_made}
-use Rattle.vb_bind.proofs.Nested.{while_is, no_while, joined, AreGoodLines, good_append, good_split, all_good, good_block, join_good, good_at}
+use Rattle.vb_bound.specs.{declared.tree.{Operand.Operand, Condition.Condition, Statement.Statement, Line.TheVariants.{While, EndWhile}}, Tree.{Block, Done, Then, Loop, lines_of, IsInitialOf, IsStatementOf, IsLineOf, AreLocals}}
+use Rattle.vb_bind.specs.{declared.names.KnownNames.KnownNames, Grammar.{AreDistinctNames, IsBlockOf}, Parsing.{statement_read, test_read, dim_read, front, dim_or, front_read, is_new, IsGoodBlock, IsNoBlock}}
+use Rattle.vb_bind.proofs.{OneStatement.{statement_sound, statement_made, test_sound, test_made}, Nested.{while_is, no_while, joined, AreGoodLines, good_append, good_split, all_good, good_block, join_good, good_at}}
 
 -- what is so of an Ok is so where it follows
 pub ok_so : {X E : Type 0} (r : Result X E) (P Q : X → Type 0) → IfOk r P → ((x : X) → P x → Q x) → IfOk r Q

@@ -5,23 +5,15 @@ use Rattle.std.specs.Int.{w32}
 use Rattle.std.proofs.lemmas.Bool.Decides.{nat_tests}
 use denote.Enum.Bare.{same_true}
 use Rattle.vb_text.specs.declared.names.Name.{Name}
-use Rattle.vb_syntax.specs.contracts.types.PrimitiveTypeName.{the_type as primitives}
-use Rattle.vb_syntax.specs.declared.tokens.IntegerType.{IntegerType}
+use Rattle.vb_syntax.specs.{contracts.types.PrimitiveTypeName.the_type as primitives, declared.{tokens.IntegerType.IntegerType, types.TypeName.TypeName, expression.{BinaryOperator.BinaryOperator, Expr.{Expr as SyntaxExpr, out-Expr, roll-Expr, roll-out-Expr, TheOpen.Expr-F, TheVariants.{rolls-Binary, rolls-Invocation, rolls-MemberAccess}}}, declarator.VariableModifier.VariableModifier}}
 use Rattle.vb_syntax.specs.declared.tokens.IntegerType.TheVariants as kind
 use Rattle.vb_syntax.specs.declared.types.PrimitiveTypeName.TheVariants as primitive
 use Rattle.vb_syntax.specs.declared.types.BuiltInTypeName.TheVariants as built_in
 use Rattle.vb_syntax.specs.declared.types.SimpleTypeName.TheVariants as simple
-use Rattle.vb_syntax.specs.declared.types.TypeName.{TypeName}
 use Rattle.vb_syntax.specs.declared.types.TypeName.TheVariants as type_name
-use Rattle.vb_syntax.specs.declared.expression.BinaryOperator.{BinaryOperator}
-use Rattle.vb_syntax.specs.declared.expression.Expr.{Expr as SyntaxExpr, out-Expr, roll-Expr, roll-out-Expr}
-use Rattle.vb_syntax.specs.declared.expression.Expr.TheOpen.{Expr-F}
 use Rattle.vb_syntax.specs.declared.expression.Expr.TheVariants as tree
-use Rattle.vb_syntax.specs.declared.expression.Expr.TheVariants.{rolls-Binary, rolls-Invocation, rolls-MemberAccess}
-use Rattle.vb_syntax.specs.declared.declarator.VariableModifier.{VariableModifier}
 use Rattle.vb_syntax.specs.declared.declarator.VariableModifier.TheVariants as modifier
-use Rattle.vb_bind.specs.Grammar.{IsIn}
-use Rattle.vb_bind.specs.Parsing.{and_then, same_name, named, is_one_of, is_name_tree, as_integer, integer_of, number_read, is_integer_type, is_plain}
+use Rattle.vb_bind.specs.{Grammar.IsIn, Parsing.{and_then, same_name, named, is_one_of, is_name_tree, as_integer, integer_of, number_read, is_integer_type, is_plain}}
 
 pub by_test : (b : Bool) (P : Type 0) → (b ≡ true → P) → (b ≡ false → P) → P
 by_test true P f g = f refl

@@ -1,50 +1,24 @@
 -- Which syntax trees of files are a program, and which lines have a form that none has.
 use Rattle.std.specs.Prelude.{◌≡◌, ◌⊎◌, ℕ, ◌≤◌, FitsSigned, if◌then◌else◌, nat_le, List, [], ◌∷◌, ◌++◌, length, Option, Some, None, slice_get, unwrap_or, codes}
 use Rattle.std.specs.Int.{w32}
-use Rattle.vb_text.specs.Names.{IsNameOf, with_name}
-use Rattle.vb_text.specs.declared.names.Name.{Name}
+use Rattle.vb_text.specs.{Names.{IsNameOf, with_name}, declared.names.Name.Name}
 use Rattle.vb_syntax.specs.declared.tokens.IntegerType.TheVariants as kind
-use Rattle.vb_syntax.specs.declared.tokens.Line.{Line as TokenLine}
+use Rattle.vb_syntax.specs.declared.{tokens.Line.Line as TokenLine, expression.{RelationalOperator.RelationalOperator, BinaryOperator.BinaryOperator, Expr.Expr as SyntaxExpr, VariableInitializer.VariableInitializer}, statement.{Statement.Statement as SyntaxStatement, StatementForm.StatementForm}, declaration.{OptionStatement.OptionStatement, ImportsStatement.ImportsStatement, Member.Member, TypeDeclaration.TypeDeclaration, SourceFile.SourceFile}}
 use Rattle.vb_syntax.specs.declared.types.PrimitiveTypeName.TheVariants as primitive
 use Rattle.vb_syntax.specs.declared.types.BuiltInTypeName.TheVariants as built_in
 use Rattle.vb_syntax.specs.declared.types.SimpleTypeName.TheVariants as simple
 use Rattle.vb_syntax.specs.declared.types.TypeName.TheVariants as type_name
-use Rattle.vb_syntax.specs.declared.expression.RelationalOperator.{RelationalOperator}
 use Rattle.vb_syntax.specs.declared.expression.RelationalOperator.TheVariants as relational
-use Rattle.vb_syntax.specs.declared.expression.BinaryOperator.{BinaryOperator}
 use Rattle.vb_syntax.specs.declared.expression.BinaryOperator.TheVariants as binary
-use Rattle.vb_syntax.specs.declared.expression.Expr.{Expr as SyntaxExpr}
 use Rattle.vb_syntax.specs.declared.expression.Expr.TheVariants as tree
-use Rattle.vb_syntax.specs.declared.expression.VariableInitializer.{VariableInitializer}
 use Rattle.vb_syntax.specs.declared.expression.VariableInitializer.TheVariants as init
 use Rattle.vb_syntax.specs.declared.declarator.VariableModifier.TheVariants as modifier
 use Rattle.vb_syntax.specs.declared.declarator.Declarator.TheVariants as declarator
 use Rattle.vb_syntax.specs.declared.statement.LocalModifier.TheVariants as local
-use Rattle.vb_syntax.specs.declared.statement.Statement.{Statement as SyntaxStatement}
-use Rattle.vb_syntax.specs.declared.statement.StatementForm.{StatementForm}
 use Rattle.vb_syntax.specs.declared.statement.StatementForm.TheVariants as form
-use Rattle.vb_syntax.specs.declared.declaration.OptionStatement.{OptionStatement}
-use Rattle.vb_syntax.specs.declared.declaration.ImportsStatement.{ImportsStatement}
-use Rattle.vb_syntax.specs.declared.declaration.Member.{Member}
 use Rattle.vb_syntax.specs.declared.declaration.MemberForm.TheVariants as member
-use Rattle.vb_syntax.specs.declared.declaration.TypeDeclaration.{TypeDeclaration}
 use Rattle.vb_syntax.specs.declared.declaration.TypeForm.TheVariants as type_form
-use Rattle.vb_syntax.specs.declared.declaration.SourceFile.{SourceFile}
-use Rattle.vb_bound.specs.declared.tree.LocalId.{LocalId}
-use Rattle.vb_bound.specs.declared.tree.Operand.{Operand}
-use Rattle.vb_bound.specs.declared.tree.Operand.TheVariants.{Local, Number}
-use Rattle.vb_bound.specs.declared.tree.Operator.{Operator}
-use Rattle.vb_bound.specs.declared.tree.Operator.TheVariants.{Add, Sub, Mul}
-use Rattle.vb_bound.specs.declared.tree.Relation.{Relation}
-use Rattle.vb_bound.specs.declared.tree.Relation.TheVariants.{Equal, NotEqual, Less, LessOrEqual, Greater, GreaterOrEqual}
-use Rattle.vb_bound.specs.declared.tree.Expr.{Expr}
-use Rattle.vb_bound.specs.declared.tree.Expr.TheVariants.{One, Two}
-use Rattle.vb_bound.specs.declared.tree.Condition.{Condition}
-use Rattle.vb_bound.specs.declared.tree.Statement.{Statement}
-use Rattle.vb_bound.specs.declared.tree.Statement.TheVariants.{Assign, WriteLine}
-use Rattle.vb_bound.specs.declared.tree.Line.{Line}
-use Rattle.vb_bound.specs.declared.tree.Line.TheVariants.{Does, While, EndWhile}
-use Rattle.vb_bound.specs.Tree.{Block, Done, Then, Loop, Tree, lines_of, outline, IsBound}
+use Rattle.vb_bound.specs.{declared.tree.{LocalId.LocalId, Operand.{Operand, TheVariants.{Local, Number}}, Operator.{Operator, TheVariants.{Add, Sub, Mul}}, Relation.{Relation, TheVariants.{Equal, NotEqual, Less, LessOrEqual, Greater, GreaterOrEqual}}, Expr.{Expr, TheVariants.{One, Two}}, Condition.Condition, Statement.{Statement, TheVariants.{Assign, WriteLine}}, Line.{Line, TheVariants.{Does, While, EndWhile}}}, Tree.{Block, Done, Then, Loop, Tree, lines_of, outline, IsBound}}
 use Rattle.vb_bind.specs.declared.names.KnownNames.{KnownNames}
 
 -- The table has the names that the grammar uses.

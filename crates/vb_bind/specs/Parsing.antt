@@ -3,64 +3,24 @@ use Rattle.std.specs.Prelude.{ℕ, ◌+◌, ◌^◌, Bool, true, false, not, ◌
 use Rattle.std.specs.List.{list_any}
 use denote.Enum.Bare.{sameb}
 use Rattle.vb_text.specs.declared.names.Name.{Name}
-use Rattle.vb_syntax.specs.contracts.types.PrimitiveTypeName.{the_type as primitives}
-use Rattle.vb_syntax.specs.declared.tokens.IntegerType.{IntegerType}
+use Rattle.vb_syntax.specs.{contracts.types.PrimitiveTypeName.the_type as primitives, declared.{tokens.IntegerType.IntegerType, types.{BuiltInTypeName.BuiltInTypeName, SimpleTypeName.SimpleTypeName, TypeName.TypeName}, expression.{RelationalOperator.RelationalOperator, BinaryOperator.BinaryOperator, Expr.{Expr as SyntaxExpr, out-Expr, TheOpen.Expr-F}, VariableInitializer.VariableInitializer}, declarator.{VariableIdentifier.VariableIdentifier, VariableModifier.VariableModifier, Declarator.Declarator}, statement.{Statement.Statement as SyntaxStatement, StatementForm.{StatementForm, out-StatementForm, TheOpen.StatementForm-F}, BlockClause.BlockClause, CaseClause.CaseClause, CatchClause.CatchClause, ElseIfClause.ElseIfClause}, declaration.{Access.Access, Member.Member, MemberForm.MemberForm, MethodSignature.MethodSignature, Modifier.Modifier, TypeDeclaration.TypeDeclaration, TypeForm.TypeForm, SourceFile.SourceFile}}}
 use Rattle.vb_syntax.specs.declared.tokens.IntegerType.TheVariants as kind
 use Rattle.vb_syntax.specs.declared.types.PrimitiveTypeName.TheVariants as primitive
-use Rattle.vb_syntax.specs.declared.types.BuiltInTypeName.{BuiltInTypeName}
 use Rattle.vb_syntax.specs.declared.types.BuiltInTypeName.TheVariants as built_in
-use Rattle.vb_syntax.specs.declared.types.SimpleTypeName.{SimpleTypeName}
 use Rattle.vb_syntax.specs.declared.types.SimpleTypeName.TheVariants as simple
-use Rattle.vb_syntax.specs.declared.types.TypeName.{TypeName}
 use Rattle.vb_syntax.specs.declared.types.TypeName.TheVariants as type_name
-use Rattle.vb_syntax.specs.declared.expression.RelationalOperator.{RelationalOperator}
 use Rattle.vb_syntax.specs.declared.expression.RelationalOperator.TheVariants as relational
-use Rattle.vb_syntax.specs.declared.expression.BinaryOperator.{BinaryOperator}
 use Rattle.vb_syntax.specs.declared.expression.BinaryOperator.TheVariants as binary
-use Rattle.vb_syntax.specs.declared.expression.Expr.{Expr as SyntaxExpr, out-Expr}
-use Rattle.vb_syntax.specs.declared.expression.Expr.TheOpen.{Expr-F}
 use Rattle.vb_syntax.specs.declared.expression.Expr.TheVariants as tree
-use Rattle.vb_syntax.specs.declared.expression.VariableInitializer.{VariableInitializer}
 use Rattle.vb_syntax.specs.declared.expression.VariableInitializer.TheVariants as init
-use Rattle.vb_syntax.specs.declared.declarator.VariableIdentifier.{VariableIdentifier}
-use Rattle.vb_syntax.specs.declared.declarator.VariableModifier.{VariableModifier}
 use Rattle.vb_syntax.specs.declared.declarator.VariableModifier.TheVariants as modifier
-use Rattle.vb_syntax.specs.declared.declarator.Declarator.{Declarator}
 use Rattle.vb_syntax.specs.declared.declarator.Declarator.TheVariants as declarator
 use Rattle.vb_syntax.specs.declared.statement.LocalModifier.TheVariants as local
-use Rattle.vb_syntax.specs.declared.statement.Statement.{Statement as SyntaxStatement}
-use Rattle.vb_syntax.specs.declared.statement.StatementForm.{StatementForm, out-StatementForm}
-use Rattle.vb_syntax.specs.declared.statement.StatementForm.TheOpen.{StatementForm-F}
 use Rattle.vb_syntax.specs.declared.statement.StatementForm.TheVariants as form
-use Rattle.vb_syntax.specs.declared.statement.BlockClause.{BlockClause}
-use Rattle.vb_syntax.specs.declared.statement.CaseClause.{CaseClause}
-use Rattle.vb_syntax.specs.declared.statement.CatchClause.{CatchClause}
-use Rattle.vb_syntax.specs.declared.statement.ElseIfClause.{ElseIfClause}
-use Rattle.vb_syntax.specs.declared.declaration.Access.{Access}
-use Rattle.vb_syntax.specs.declared.declaration.Member.{Member}
-use Rattle.vb_syntax.specs.declared.declaration.MemberForm.{MemberForm}
 use Rattle.vb_syntax.specs.declared.declaration.MemberForm.TheVariants as member
-use Rattle.vb_syntax.specs.declared.declaration.MethodSignature.{MethodSignature}
-use Rattle.vb_syntax.specs.declared.declaration.Modifier.{Modifier}
-use Rattle.vb_syntax.specs.declared.declaration.TypeDeclaration.{TypeDeclaration}
-use Rattle.vb_syntax.specs.declared.declaration.TypeForm.{TypeForm}
 use Rattle.vb_syntax.specs.declared.declaration.TypeForm.TheVariants as type_form
-use Rattle.vb_syntax.specs.declared.declaration.SourceFile.{SourceFile}
-use Rattle.vb_bound.specs.declared.tree.LocalId.{LocalId}
-use Rattle.vb_bound.specs.declared.tree.Operand.{Operand}
-use Rattle.vb_bound.specs.declared.tree.Operand.TheVariants.{Local, Number}
-use Rattle.vb_bound.specs.declared.tree.Operator.{Operator}
-use Rattle.vb_bound.specs.declared.tree.Operator.TheVariants.{Add, Sub, Mul}
-use Rattle.vb_bound.specs.declared.tree.Relation.{Relation}
-use Rattle.vb_bound.specs.declared.tree.Relation.TheVariants.{Equal, NotEqual, Less, LessOrEqual, Greater, GreaterOrEqual}
-use Rattle.vb_bound.specs.declared.tree.Expr.{Expr}
-use Rattle.vb_bound.specs.declared.tree.Expr.TheVariants.{One, Two}
-use Rattle.vb_bound.specs.declared.tree.Condition.{Condition}
-use Rattle.vb_bound.specs.declared.tree.Statement.{Statement}
-use Rattle.vb_bound.specs.declared.tree.Statement.TheVariants.{Assign, WriteLine}
-use Rattle.vb_bound.specs.Tree.{Block, lines_of, AreLines}
-use Rattle.vb_bind.specs.declared.names.KnownNames.{KnownNames}
-use Rattle.vb_bind.specs.Grammar.{IsBlockOf, AreDistinctNames, AreMixedLines, AreFitLines}
+use Rattle.vb_bound.specs.{declared.tree.{LocalId.LocalId, Operand.{Operand, TheVariants.{Local, Number}}, Operator.{Operator, TheVariants.{Add, Sub, Mul}}, Relation.{Relation, TheVariants.{Equal, NotEqual, Less, LessOrEqual, Greater, GreaterOrEqual}}, Expr.{Expr, TheVariants.{One, Two}}, Condition.Condition, Statement.{Statement, TheVariants.{Assign, WriteLine}}}, Tree.{Block, lines_of, AreLines}}
+use Rattle.vb_bind.specs.{declared.names.KnownNames.KnownNames, Grammar.{IsBlockOf, AreDistinctNames, AreMixedLines, AreFitLines}}
 
 -- goes on with what was read
 abbrev pub and_then : {A B : Type 0} → Option A → (A → Option B) → Option B

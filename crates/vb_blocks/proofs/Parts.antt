@@ -1,57 +1,21 @@
 -- The smaller functions of the code are those of the steps.
 use Rattle.std.proofs.Common.{◌≡◌, ℕ, Bool, true, false, not, ◌&&◌, ◌||◌, cond, List, [], ◌∷◌, ◌++◌, Option, Some, None, Result, refl, ap, subst}
 use Rattle.vb_text.specs.declared.names.Name.{Name}
-use Rattle.vb_syntax.specs.declared.types.TypeName.{TypeName}
-use Rattle.vb_syntax.specs.declared.expression.Expr.{Expr}
+use Rattle.vb_syntax.specs.{declared.{types.TypeName.TypeName, expression.Expr.Expr, statement.{Statement.Statement, BlockClause.BlockClause, LoopCondition.LoopCondition, LoopControlVariable.LoopControlVariable, LoopTest.LoopTest, UsingResource.UsingResource}, declaration.{Access.Access, EventAccessor.EventAccessor, Parameter.Parameter, MethodSignature.MethodSignature, ImplementedMember.ImplementedMember, FunctionKind.FunctionKind, Modifier.Modifier, MemberForm.MemberForm, Member.Member, ClassBase.ClassBase, InterfaceList.InterfaceList, InterfaceMember.InterfaceMember, PropertyAccessors.PropertyAccessors}, item.{PropertyHeader.PropertyHeader, EventAccessorKind.EventAccessorKind, DeclarationLine.DeclarationLine, BlockWord.BlockWord, Item.Item}}, Items.must_override}
 use Rattle.vb_syntax.specs.declared.statement.StatementForm.TheVariants as form
-use Rattle.vb_syntax.specs.declared.statement.Statement.{Statement}
-use Rattle.vb_syntax.specs.declared.statement.BlockClause.{BlockClause}
-use Rattle.vb_syntax.specs.declared.statement.LoopCondition.{LoopCondition}
-use Rattle.vb_syntax.specs.declared.statement.LoopControlVariable.{LoopControlVariable}
-use Rattle.vb_syntax.specs.declared.statement.LoopTest.{LoopTest}
 use Rattle.vb_syntax.specs.declared.statement.LoopTest.TheVariants as loop
-use Rattle.vb_syntax.specs.declared.statement.UsingResource.{UsingResource}
-use Rattle.vb_syntax.specs.declared.declaration.Access.{Access}
-use Rattle.vb_syntax.specs.declared.declaration.EventAccessor.{EventAccessor}
-use Rattle.vb_syntax.specs.declared.declaration.Parameter.{Parameter}
-use Rattle.vb_syntax.specs.declared.declaration.MethodSignature.{MethodSignature}
-use Rattle.vb_syntax.specs.declared.declaration.ImplementedMember.{ImplementedMember}
-use Rattle.vb_syntax.specs.declared.declaration.FunctionKind.{FunctionKind}
-use Rattle.vb_syntax.specs.declared.declaration.Modifier.{Modifier}
-use Rattle.vb_syntax.specs.declared.declaration.MemberForm.{MemberForm}
 use Rattle.vb_syntax.specs.declared.declaration.MemberForm.TheVariants as member
-use Rattle.vb_syntax.specs.declared.declaration.Member.{Member}
-use Rattle.vb_syntax.specs.declared.declaration.ClassBase.{ClassBase}
-use Rattle.vb_syntax.specs.declared.declaration.InterfaceList.{InterfaceList}
-use Rattle.vb_syntax.specs.declared.declaration.InterfaceMember.{InterfaceMember}
-use Rattle.vb_syntax.specs.declared.declaration.PropertyAccessors.{PropertyAccessors}
 use Rattle.vb_syntax.specs.declared.declaration.TypeForm.TheVariants as type_form
-use Rattle.vb_syntax.specs.declared.item.PropertyHeader.{PropertyHeader}
-use Rattle.vb_syntax.specs.declared.item.EventAccessorKind.{EventAccessorKind}
 use Rattle.vb_syntax.specs.declared.item.EventAccessorKind.TheVariants as accessor
-use Rattle.vb_syntax.specs.declared.item.DeclarationLine.{DeclarationLine}
 use Rattle.vb_syntax.specs.declared.item.DeclarationLine.TheVariants as header
-use Rattle.vb_syntax.specs.declared.item.BlockWord.{BlockWord}
 use Rattle.vb_syntax.specs.declared.item.BlockWord.TheVariants as word
-use Rattle.vb_syntax.specs.declared.item.Item.{Item}
 use Rattle.vb_syntax.specs.declared.item.Item.TheVariants as item
-use Rattle.vb_syntax.specs.Items.{must_override}
-use Rattle.vb_blocks.specs.declared.fault.Fault.{Fault}
-use Rattle.vb_blocks.specs.declared.scope.IfParts.{IfParts}
-use Rattle.vb_blocks.specs.declared.scope.SelectParts.{SelectParts}
-use Rattle.vb_blocks.specs.declared.scope.TryParts.{TryParts}
-use Rattle.vb_blocks.specs.declared.scope.AccessorHeader.{AccessorHeader}
+use Rattle.vb_blocks.specs.{declared.{fault.Fault.Fault, scope.{IfParts.IfParts, SelectParts.SelectParts, TryParts.TryParts, AccessorHeader.AccessorHeader}, frame.{ClassParts.ClassParts, InterfaceParts.InterfaceParts, Turn.Turn}}, Trees.{statement, enclosed, procedure, accessor_word}, Words.is_word, Steps.{Gives, word_of, if_end, select_end, try_end, loop_test, enclosed_whole, procedure_whole, event_accessor_end, accessor_turn, accessor_end, is_next, next_of, is_bare, procedure_end, is_empty, has_no_base, class_based, class_based_if, before_all, class_of, class_implements, members_turn, with_list, interface_of, interface_inherits, interface_turn, automatic_form, has_accessors}}
 use Rattle.vb_blocks.specs.declared.scope.AccessorHeader.TheVariants as accessor_header
 use Rattle.vb_blocks.specs.declared.frame.Frame.TheVariants as frame
-use Rattle.vb_blocks.specs.declared.frame.ClassParts.{ClassParts}
-use Rattle.vb_blocks.specs.declared.frame.InterfaceParts.{InterfaceParts}
 use Rattle.vb_blocks.specs.declared.frame.TypeHeader.TheVariants as type_header
 use Rattle.vb_blocks.specs.declared.frame.Whole.TheVariants as is
-use Rattle.vb_blocks.specs.declared.frame.Turn.{Turn}
 use Rattle.vb_blocks.specs.declared.frame.Turn.TheVariants as turn
-use Rattle.vb_blocks.specs.Trees.{statement, enclosed, procedure, accessor_word}
-use Rattle.vb_blocks.specs.Words.{is_word}
-use Rattle.vb_blocks.specs.Steps.{Gives, word_of, if_end, select_end, try_end, loop_test, enclosed_whole, procedure_whole, event_accessor_end, accessor_turn, accessor_end, is_next, next_of, is_bare, procedure_end, is_empty, has_no_base, class_based, class_based_if, before_all, class_of, class_implements, members_turn, with_list, interface_of, interface_inherits, interface_turn, automatic_form, has_accessors}
 
 -- THE ENDS OF CLAUSES
 

@@ -1,79 +1,28 @@
 -- How the rows of a file become its tree: private steps on lists, which the code equals. The innermost frame stands first.
 use Rattle.std.specs.Prelude.{◌≡◌, ℕ, Bool, true, false, not, ◌&&◌, if◌then◌else◌, List, [], ◌∷◌, ◌++◌, Option, Some, None, Result, Ok, Err}
 use Rattle.vb_text.specs.declared.names.Name.{Name}
-use Rattle.vb_syntax.specs.declared.types.TypeName.{TypeName}
-use Rattle.vb_syntax.specs.declared.expression.Expr.{Expr}
-use Rattle.vb_syntax.specs.declared.statement.CaseItem.{CaseItem}
-use Rattle.vb_syntax.specs.declared.statement.CatchClause.{CatchClause}
-use Rattle.vb_syntax.specs.declared.declaration.ImplementedMember.{ImplementedMember}
-use Rattle.vb_syntax.specs.declared.declaration.PropertyAccessors.{PropertyAccessors}
-use Rattle.vb_syntax.specs.declared.statement.StatementForm.{StatementForm}
+use Rattle.vb_syntax.specs.{declared.{types.TypeName.TypeName, expression.Expr.Expr, statement.{CaseItem.CaseItem, CatchClause.CatchClause, StatementForm.StatementForm, Statement.Statement, LoopCondition.LoopCondition, LoopTest.LoopTest, NextClause.NextClause, BlockClause.BlockClause}, declaration.{ImplementedMember.ImplementedMember, PropertyAccessors.PropertyAccessors, Modifier.Modifier, MemberForm.MemberForm, GetAccessor.GetAccessor, SetAccessor.SetAccessor, EventAccessor.EventAccessor, Member.Member, InterfaceHeader.InterfaceHeader, InterfaceMember.InterfaceMember, InterfaceList.InterfaceList, ClassBase.ClassBase, TypeDeclaration.TypeDeclaration, SourceFile.SourceFile}, item.{EventAccessorKind.EventAccessorKind, DeclarationLine.DeclarationLine, BlockWord.BlockWord, Joint.Joint, Item.Item, Row.Row}}, Items.must_override}
 use Rattle.vb_syntax.specs.declared.statement.StatementForm.TheVariants as form
-use Rattle.vb_syntax.specs.declared.statement.Statement.{Statement}
-use Rattle.vb_syntax.specs.declared.statement.LoopCondition.{LoopCondition}
-use Rattle.vb_syntax.specs.declared.statement.LoopTest.{LoopTest}
 use Rattle.vb_syntax.specs.declared.statement.LoopTest.TheVariants as loop
-use Rattle.vb_syntax.specs.declared.statement.NextClause.{NextClause}
-use Rattle.vb_syntax.specs.declared.statement.BlockClause.{BlockClause}
-use Rattle.vb_syntax.specs.declared.declaration.Modifier.{Modifier}
-use Rattle.vb_syntax.specs.declared.declaration.MemberForm.{MemberForm}
 use Rattle.vb_syntax.specs.declared.declaration.MemberForm.TheVariants as member
-use Rattle.vb_syntax.specs.declared.declaration.GetAccessor.{GetAccessor}
-use Rattle.vb_syntax.specs.declared.declaration.SetAccessor.{SetAccessor}
-use Rattle.vb_syntax.specs.declared.declaration.EventAccessor.{EventAccessor}
-use Rattle.vb_syntax.specs.declared.declaration.Member.{Member}
-use Rattle.vb_syntax.specs.declared.declaration.InterfaceHeader.{InterfaceHeader}
-use Rattle.vb_syntax.specs.declared.declaration.InterfaceMember.{InterfaceMember}
-use Rattle.vb_syntax.specs.declared.declaration.InterfaceList.{InterfaceList}
-use Rattle.vb_syntax.specs.declared.declaration.ClassBase.{ClassBase}
 use Rattle.vb_syntax.specs.declared.declaration.TypeForm.TheVariants as type_form
-use Rattle.vb_syntax.specs.declared.declaration.TypeDeclaration.{TypeDeclaration}
-use Rattle.vb_syntax.specs.declared.declaration.SourceFile.{SourceFile}
-use Rattle.vb_syntax.specs.declared.item.EventAccessorKind.{EventAccessorKind}
 use Rattle.vb_syntax.specs.declared.item.EventAccessorKind.TheVariants as accessor
-use Rattle.vb_syntax.specs.declared.item.DeclarationLine.{DeclarationLine}
 use Rattle.vb_syntax.specs.declared.item.DeclarationLine.TheVariants as header
-use Rattle.vb_syntax.specs.declared.item.BlockWord.{BlockWord}
 use Rattle.vb_syntax.specs.declared.item.BlockWord.TheVariants as word
-use Rattle.vb_syntax.specs.declared.item.Joint.{Joint}
 use Rattle.vb_syntax.specs.declared.item.Joint.TheVariants as joint
-use Rattle.vb_syntax.specs.declared.item.Item.{Item}
 use Rattle.vb_syntax.specs.declared.item.Item.TheVariants as item
-use Rattle.vb_syntax.specs.declared.item.Row.{Row}
-use Rattle.vb_syntax.specs.Items.{must_override}
 use Rattle.vb_ends.specs.Roles.{goes_on_property}
-use Rattle.vb_blocks.specs.declared.fault.Fault.{Fault}
-use Rattle.vb_blocks.specs.declared.fault.Fault.TheVariants.{Memory, Grammar}
-use Rattle.vb_blocks.specs.declared.scope.Scope.{Scope}
+use Rattle.vb_blocks.specs.{declared.{fault.Fault.{Fault, TheVariants.{Memory, Grammar}}, scope.{Scope.Scope, IfParts.IfParts, IfClause.IfClause, SelectParts.SelectParts, SelectClause.SelectClause, TryParts.TryParts, TryClause.TryClause, AccessorHeader.AccessorHeader, LineClause.LineClause}, frame.{Frame.Frame, PropertyParts.PropertyParts, EventParts.EventParts, TypeHeader.TypeHeader, ClassParts.ClassParts, InterfaceParts.InterfaceParts, FileParts.FileParts, Whole.Whole, Turn.Turn}}, Trees.{statement, member_of, else_if, case, catch, last_clause, simple_form, enclosed, bare_member, procedure, accessor_word, interface_member}, Words.is_word}
 use Rattle.vb_blocks.specs.declared.scope.Scope.TheVariants as scope
-use Rattle.vb_blocks.specs.declared.scope.IfParts.{IfParts}
-use Rattle.vb_blocks.specs.declared.scope.IfClause.{IfClause}
 use Rattle.vb_blocks.specs.declared.scope.IfClause.TheVariants as if_clause
-use Rattle.vb_blocks.specs.declared.scope.SelectParts.{SelectParts}
-use Rattle.vb_blocks.specs.declared.scope.SelectClause.{SelectClause}
 use Rattle.vb_blocks.specs.declared.scope.SelectClause.TheVariants as select_clause
-use Rattle.vb_blocks.specs.declared.scope.TryParts.{TryParts}
-use Rattle.vb_blocks.specs.declared.scope.TryClause.{TryClause}
 use Rattle.vb_blocks.specs.declared.scope.TryClause.TheVariants as try_clause
-use Rattle.vb_blocks.specs.declared.scope.AccessorHeader.{AccessorHeader}
 use Rattle.vb_blocks.specs.declared.scope.AccessorHeader.TheVariants as accessor_header
-use Rattle.vb_blocks.specs.declared.scope.LineClause.{LineClause}
 use Rattle.vb_blocks.specs.declared.scope.LineClause.TheVariants as line_clause
-use Rattle.vb_blocks.specs.declared.frame.Frame.{Frame}
 use Rattle.vb_blocks.specs.declared.frame.Frame.TheVariants as frame
-use Rattle.vb_blocks.specs.declared.frame.PropertyParts.{PropertyParts}
-use Rattle.vb_blocks.specs.declared.frame.EventParts.{EventParts}
-use Rattle.vb_blocks.specs.declared.frame.TypeHeader.{TypeHeader}
 use Rattle.vb_blocks.specs.declared.frame.TypeHeader.TheVariants as type_header
-use Rattle.vb_blocks.specs.declared.frame.ClassParts.{ClassParts}
-use Rattle.vb_blocks.specs.declared.frame.InterfaceParts.{InterfaceParts}
-use Rattle.vb_blocks.specs.declared.frame.FileParts.{FileParts}
-use Rattle.vb_blocks.specs.declared.frame.Whole.{Whole}
 use Rattle.vb_blocks.specs.declared.frame.Whole.TheVariants as is
-use Rattle.vb_blocks.specs.declared.frame.Turn.{Turn}
 use Rattle.vb_blocks.specs.declared.frame.Turn.TheVariants as turn
-use Rattle.vb_blocks.specs.Trees.{statement, member_of, else_if, case, catch, last_clause, simple_form, enclosed, bare_member, procedure, accessor_word, interface_member}
-use Rattle.vb_blocks.specs.Words.{is_word}
 
 -- the innermost frame, and those round it
 abbrev pub State : Type 0

@@ -2,56 +2,19 @@
 -- the beginning of the file. Each part of a tree is some rows, one behind the other, and the part knows the line of its first.
 use Rattle.std.specs.Prelude.{◌≡◌, ℕ, Bool, true, false, if◌then◌else◌, List, [], ◌∷◌, ◌++◌, Option, Some, None}
 use Rattle.vb_text.specs.declared.names.Name.{Name}
-use Rattle.vb_syntax.specs.declared.types.TypeName.{TypeName}
-use Rattle.vb_syntax.specs.declared.types.TypeParameter.{TypeParameter}
-use Rattle.vb_syntax.specs.declared.expression.Expr.{Expr}
+use Rattle.vb_syntax.specs.{declared.{types.{TypeName.TypeName, TypeParameter.TypeParameter}, expression.Expr.Expr, statement.{CaseItem.CaseItem, CatchVariable.CatchVariable, StatementForm.StatementForm, Statement.Statement, ElseIfClause.{ElseIfClause, roll-ElseIfClause}, CaseClause.{CaseClause, roll-CaseClause}, CatchClause.{CatchClause, roll-CatchClause}, BlockClause.{BlockClause, roll-BlockClause}}, declaration.{Access.Access, Modifier.Modifier, Parameter.Parameter, GetAccessor.GetAccessor, SetAccessor.SetAccessor, EventAccessor.EventAccessor, MemberForm.MemberForm, Member.Member, ClassModifier.ClassModifier, ClassBase.ClassBase, InterfaceList.InterfaceList, InterfaceHeader.InterfaceHeader, InterfaceMember.InterfaceMember, DelegateKind.DelegateKind, TypeDeclaration.TypeDeclaration, OptionSetting.OptionSetting, OptionStatement.OptionStatement, ImportsStatement.ImportsStatement, SourceFile.SourceFile}, item.{PropertyHeader.PropertyHeader, EventAccessorKind.EventAccessorKind, DeclarationLine.DeclarationLine, BlockWord.BlockWord, Joint.Joint, Item.Item, Row.Row}}, Items.must_override}
 use Rattle.vb_syntax.specs.declared.statement.LocalModifier.TheVariants as local
 use Rattle.vb_syntax.specs.declared.statement.LoopTest.TheVariants as loop
-use Rattle.vb_syntax.specs.declared.statement.CaseItem.{CaseItem}
-use Rattle.vb_syntax.specs.declared.statement.CatchVariable.{CatchVariable}
-use Rattle.vb_syntax.specs.declared.statement.StatementForm.{StatementForm}
 use Rattle.vb_syntax.specs.declared.statement.StatementForm.TheVariants as form
-use Rattle.vb_syntax.specs.declared.statement.Statement.{Statement}
-use Rattle.vb_syntax.specs.declared.statement.ElseIfClause.{ElseIfClause, roll-ElseIfClause}
-use Rattle.vb_syntax.specs.declared.statement.CaseClause.{CaseClause, roll-CaseClause}
-use Rattle.vb_syntax.specs.declared.statement.CatchClause.{CatchClause, roll-CatchClause}
-use Rattle.vb_syntax.specs.declared.statement.BlockClause.{BlockClause, roll-BlockClause}
-use Rattle.vb_syntax.specs.declared.declaration.Access.{Access}
-use Rattle.vb_syntax.specs.declared.declaration.Modifier.{Modifier}
-use Rattle.vb_syntax.specs.declared.declaration.Parameter.{Parameter}
 use Rattle.vb_syntax.specs.declared.declaration.FunctionKind.TheVariants as function
-use Rattle.vb_syntax.specs.declared.declaration.GetAccessor.{GetAccessor}
-use Rattle.vb_syntax.specs.declared.declaration.SetAccessor.{SetAccessor}
-use Rattle.vb_syntax.specs.declared.declaration.EventAccessor.{EventAccessor}
-use Rattle.vb_syntax.specs.declared.declaration.MemberForm.{MemberForm}
 use Rattle.vb_syntax.specs.declared.declaration.MemberForm.TheVariants as member
-use Rattle.vb_syntax.specs.declared.declaration.Member.{Member}
-use Rattle.vb_syntax.specs.declared.declaration.ClassModifier.{ClassModifier}
-use Rattle.vb_syntax.specs.declared.declaration.ClassBase.{ClassBase}
-use Rattle.vb_syntax.specs.declared.declaration.InterfaceList.{InterfaceList}
-use Rattle.vb_syntax.specs.declared.declaration.InterfaceHeader.{InterfaceHeader}
 use Rattle.vb_syntax.specs.declared.declaration.InterfaceHeader.TheVariants as interface_header
-use Rattle.vb_syntax.specs.declared.declaration.InterfaceMember.{InterfaceMember}
-use Rattle.vb_syntax.specs.declared.declaration.DelegateKind.{DelegateKind}
 use Rattle.vb_syntax.specs.declared.declaration.TypeForm.TheVariants as type_form
-use Rattle.vb_syntax.specs.declared.declaration.TypeDeclaration.{TypeDeclaration}
-use Rattle.vb_syntax.specs.declared.declaration.OptionSetting.{OptionSetting}
-use Rattle.vb_syntax.specs.declared.declaration.OptionStatement.{OptionStatement}
-use Rattle.vb_syntax.specs.declared.declaration.ImportsStatement.{ImportsStatement}
-use Rattle.vb_syntax.specs.declared.declaration.SourceFile.{SourceFile}
-use Rattle.vb_syntax.specs.declared.item.PropertyHeader.{PropertyHeader}
-use Rattle.vb_syntax.specs.declared.item.EventAccessorKind.{EventAccessorKind}
 use Rattle.vb_syntax.specs.declared.item.EventAccessorKind.TheVariants as accessor
-use Rattle.vb_syntax.specs.declared.item.DeclarationLine.{DeclarationLine}
 use Rattle.vb_syntax.specs.declared.item.DeclarationLine.TheVariants as header
-use Rattle.vb_syntax.specs.declared.item.BlockWord.{BlockWord}
 use Rattle.vb_syntax.specs.declared.item.BlockWord.TheVariants as word
-use Rattle.vb_syntax.specs.declared.item.Joint.{Joint}
 use Rattle.vb_syntax.specs.declared.item.Joint.TheVariants as joint
-use Rattle.vb_syntax.specs.declared.item.Item.{Item}
 use Rattle.vb_syntax.specs.declared.item.Item.TheVariants as item
-use Rattle.vb_syntax.specs.declared.item.Row.{Row}
-use Rattle.vb_syntax.specs.Items.{must_override}
 use Rattle.vb_ends.specs.Roles.{is_property_of_interface}
 
 -- a row, by its line, its item and what stands behind it

@@ -3,12 +3,7 @@ use Rattle.std.proofs.Common.{◌≡◌, inl, inr, ℕ, zero, suc, ◌+◌, ◌<
 use Rattle.std.specs.Prelude.{slice_get, IsSome, ◌==◌, if◌then◌else◌}
 use Rattle.std.proofs.lemmas.Bool.Decides.{nat_tests}
 use Rattle.std.proofs.lemmas.Option.{slice_get_within}
-use Rattle.vb_code.specs.declared.instr.Silent.TheVariants.{TextOf}
-use Rattle.vb_code.specs.declared.instr.Instr.{Instr}
-use Rattle.vb_code.specs.declared.instr.Instr.TheVariants.{Push, PushText, LoadLocal, StoreLocal, Arith, Compare, Concat, Intrinsic, Jump, JumpIf, Write, Return}
-use Rattle.vb_code.specs.Code.{Code, body_of}
-use Rattle.vb_code.specs.Shapes.{Shapes, Turns, leads_to, AllHave, IsShaping, IsChecked}
-use Rattle.vb_code.specs.Failing.{Visit, is_in, leads_in, or_new, before, IsVisited, Fits, AllFit, Passes, IsVerdict, AreVisits, AreAllVisits, HasFailed, IsFirstFailing}
+use Rattle.vb_code.specs.{declared.instr.{Silent.TheVariants.TextOf, Instr.{Instr, TheVariants.{Push, PushText, LoadLocal, StoreLocal, Arith, Compare, Concat, Intrinsic, Jump, JumpIf, Write, Return}}}, Code.{Code, body_of}, Shapes.{Shapes, Turns, leads_to, AllHave, IsShaping, IsChecked}, Failing.{Visit, is_in, leads_in, or_new, before, IsVisited, Fits, AllFit, Passes, IsVerdict, AreVisits, AreAllVisits, HasFailed, IsFirstFailing}}
 
 -- an instruction gives one list of shapes
 turns_once : (c : Code) (i : Instr) (ks js os : Shapes) → Turns c i ks js → Turns c i ks os → js ≡ os

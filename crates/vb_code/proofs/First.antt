@@ -1,11 +1,7 @@
 -- The first state of a thread.
 use Rattle.std.proofs.Common.{◌≡◌, List, [], ◌∷◌, map, Some, refl, sym, ap, ◌∙◌}
-use Rattle.vb_value.specs.declared.value.Shape.{Shape}
-use Rattle.vb_value.specs.declared.value.Shape.TheVariants.{Num, Bool, Text, Ref}
-use Rattle.vb_value.specs.Datum.{Datum, shape_of, default_of}
-use Rattle.vb_code.specs.Code.{Code, locals_of}
-use Rattle.vb_code.specs.Machine.{At}
-use Rattle.vb_code.specs.Shapes.{IsChecked, IsState}
+use Rattle.vb_value.specs.{declared.value.Shape.{Shape, TheVariants.{Num, Bool, Text, Ref}}, Datum.{Datum, shape_of, default_of}}
+use Rattle.vb_code.specs.{Code.{Code, locals_of}, Machine.At, Shapes.{IsChecked, IsState}}
 
 shape_of-default : (k : Shape) → shape_of (default_of k) ≡ k
 shape_of-default (Num kind) = refl

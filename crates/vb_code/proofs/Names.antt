@@ -1,8 +1,7 @@
 -- Looking classes up by name.
 use Rattle.std.proofs.Common.{◌≡◌, ℕ, zero, suc, ◌+◌, ◌-◌, ◌<◌, ◌≤◌, Bool, true, false, ◌&&◌, ◌||◌, List, [], ◌∷◌, length, drop, get_or, Option, Some, None, refl, sym, ap, ◌∙◌, arith, add-one}
 use Rattle.std.specs.Prelude.{slice_get, bytes_eq, nat_eq, if◌then◌else◌}
-use Rattle.vb_code.specs.declared.code.Class.{Class}
-use Rattle.vb_code.specs.Code.{Code, text_at, class_from, class_name, base_in, inherits, exception}
+use Rattle.vb_code.specs.{declared.code.Class.Class, Code.{Code, text_at, class_from, class_name, base_in, inherits, exception}}
 
 pub drop_at : {A : Type 0} (xs : List A) (i : ℕ) (x : A) → slice_get xs i ≡ Some x → drop i xs ≡ x ∷ drop (i + 1) xs
 drop_at [] i x e = cc

@@ -2,8 +2,7 @@
 use Rattle.std.proofs.Common.{◌≡◌, ℕ, zero, suc, ◌+◌, ◌<◌, Bool, true, false, List, [], ◌∷◌, map, Some, refl, sym, ap, ◌∙◌, arith}
 use Rattle.std.specs.Prelude.{slice_get, ◌==◌, if◌then◌else◌}
 use Rattle.std.proofs.lemmas.Bool.Decides.{nat_tests}
-use Rattle.vb_code.specs.declared.instr.Step.{Step}
-use Rattle.vb_code.specs.Code.{begins_from, begins_at}
+use Rattle.vb_code.specs.{declared.instr.Step.Step, Code.{begins_from, begins_at}}
 
 -- no statement begins before the places that are listed
 pub begins_before : (ss : List Step) (i place : ℕ) → place < i → begins_at (begins_from i ss) place ≡ 0

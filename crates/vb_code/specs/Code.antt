@@ -1,9 +1,7 @@
 -- Code as it is seen.
 use Rattle.std.specs.Prelude.{ℕ, zero, suc, ◌+◌, Bool, false, ◌||◌, ◌==◌, List, [], ◌∷◌, map, length, Option, Some, None, unwrap_or, slice_get, if◌then◌else◌, codes, bytes_eq}
 use Rattle.vb_value.specs.declared.value.Shape.{Shape}
-use Rattle.vb_code.specs.declared.instr.Instr.{Instr}
-use Rattle.vb_code.specs.declared.instr.Step.{Step}
-use Rattle.vb_code.specs.declared.code.Class.{Class}
+use Rattle.vb_code.specs.declared.{instr.{Instr.Instr, Step.Step}, code.Class.Class}
 
 -- A procedure: its name's text, its locals' shapes, its instructions, and at which places how many statements begin.
 pub record Procedure : Type 0 where

@@ -1,9 +1,7 @@
 -- The first place at which code fails its check (ECMA-335, III.1.8.1.3). The least place that has shapes is visited next, and
 -- gives its shapes to the places to which it leads.
 use Rattle.std.specs.Prelude.{◌≡◌, ℕ, ◌<◌, ◌≤◌, ◌⊎◌, Bool, false, ◌||◌, ◌==◌, if◌then◌else◌, List, [], ◌∷◌, length, Option, Some, None, IsSome, slice_get}
-use Rattle.vb_code.specs.declared.instr.Instr.{Instr}
-use Rattle.vb_code.specs.Code.{Code, body_of}
-use Rattle.vb_code.specs.Shapes.{Shapes, Turns, leads_to}
+use Rattle.vb_code.specs.{declared.instr.Instr.Instr, Code.{Code, body_of}, Shapes.{Shapes, Turns, leads_to}}
 
 -- One visit: the shapes before the place, and those that it gives; none where the place fails.
 pub record Visit : Type 0 where

@@ -1,15 +1,8 @@
 -- The state of one thread as it is seen, and what its actions ask.
 use Rattle.std.specs.Prelude.{List}
 use Rattle.vb_threads.specs.Machine.{Ended, Threw}
-use Rattle.vb_value.specs.declared.action.Action.{Action}
-use Rattle.vb_value.specs.declared.action.Action.TheVariants.{New as NewAction, Write as WriteAction, End as EndAction}
-use Rattle.vb_value.specs.Datum.{Datum}
-use Rattle.vb_value.specs.Store.{Ask, New, Write, End}
-use Rattle.vb_code.specs.declared.local.Position.{Position}
-use Rattle.vb_code.specs.declared.local.Position.TheVariants.{At as AtPlace, Writing, Throwing, Returned as HasReturned, Ended as HasEnded, Thrown}
-use Rattle.vb_code.specs.declared.local.Local.{Local}
-use Rattle.vb_code.specs.Code.{Code, class_name, class_units}
-use Rattle.vb_code.specs.Machine.{CodeThread, At, Returned, Gone}
+use Rattle.vb_value.specs.{declared.action.Action.{Action, TheVariants.{New as NewAction, Write as WriteAction, End as EndAction}}, Datum.Datum, Store.{Ask, New, Write, End}}
+use Rattle.vb_code.specs.{declared.local.{Position.{Position, TheVariants.{At as AtPlace, Writing, Throwing, Returned as HasReturned, Ended as HasEnded, Thrown}}, Local.Local}, Code.{Code, class_name, class_units}, Machine.{CodeThread, At, Returned, Gone}}
 
 -- a thread whose ask has no answer yet is before its instruction
 abbrev pub thread_at : Code → Position → List Datum → List Datum → CodeThread

@@ -1,25 +1,11 @@
 -- What a thread does that runs code: one case for each instruction (ECMA-335, III).
 use Rattle.std.specs.Prelude.{ℕ, ◌+◌, Bool, true, false, not, ◌&&◌, nat_le, List, [], ◌∷◌, ◌++◌, map, length, ℤ, pos, ◌+ℤ◌, ◌-ℤ◌, ◌*ℤ◌, int_le, Option, Some, None, slice_get, slice_set, slice_index_or, if◌then◌else◌}
 use Rattle.std.specs.Fmt.{signed_decimal}
-use Rattle.vb_num.specs.declared.kinds.Kind.{Kind}
-use Rattle.vb_num.specs.declared.kinds.Kind.TheVariants.{Integer}
-use Rattle.vb_num.specs.Kind.{in_kind}
+use Rattle.vb_num.specs.{declared.kinds.Kind.{Kind, TheVariants.Integer}, Kind.in_kind}
 use Rattle.vb_text.specs.Units.{most_units}
 use Rattle.vb_threads.specs.Machine.{Over, Ended, Threw, Next, Silent, Asks, Rests, Machine}
-use Rattle.vb_value.specs.Datum.{Datum, Number, Truth, Letters, Object, default_of, units_of}
-use Rattle.vb_value.specs.Store.{Places, Calls, Store, Ask, New, Write, End, Reply, store_rows, opened}
-use Rattle.vb_code.specs.declared.instr.Constant.{Constant}
-use Rattle.vb_code.specs.declared.instr.Constant.TheVariants.{Integer as IntegerConstant}
-use Rattle.vb_code.specs.declared.instr.Arithmetic.{Arithmetic}
-use Rattle.vb_code.specs.declared.instr.Arithmetic.TheVariants.{Add, Sub, Mul}
-use Rattle.vb_code.specs.declared.instr.Comparison.{Comparison}
-use Rattle.vb_code.specs.declared.instr.Comparison.TheVariants.{Equal, NotEqual, Less, LessOrEqual, Greater, GreaterOrEqual}
-use Rattle.vb_code.specs.declared.instr.Silent.TheVariants.{TextOf}
-use Rattle.vb_code.specs.declared.instr.Mark.{Mark}
-use Rattle.vb_code.specs.declared.instr.Mark.TheVariants.{Never, Always, IfEqual}
-use Rattle.vb_code.specs.declared.instr.Instr.{Instr}
-use Rattle.vb_code.specs.declared.instr.Instr.TheVariants.{Push, PushText, LoadLocal, StoreLocal, Arith, Compare, Concat, Intrinsic, Jump, JumpIf, Write as WriteInstr, Return}
-use Rattle.vb_code.specs.Code.{Code, body_of, begins_of, locals_of, begins_at, text_at, throwable, class_units, overflow, out_of_memory}
+use Rattle.vb_value.specs.{Datum.{Datum, Number, Truth, Letters, Object, default_of, units_of}, Store.{Places, Calls, Store, Ask, New, Write, End, Reply, store_rows, opened}}
+use Rattle.vb_code.specs.{declared.instr.{Constant.{Constant, TheVariants.Integer as IntegerConstant}, Arithmetic.{Arithmetic, TheVariants.{Add, Sub, Mul}}, Comparison.{Comparison, TheVariants.{Equal, NotEqual, Less, LessOrEqual, Greater, GreaterOrEqual}}, Silent.TheVariants.TextOf, Mark.{Mark, TheVariants.{Never, Always, IfEqual}}, Instr.{Instr, TheVariants.{Push, PushText, LoadLocal, StoreLocal, Arith, Compare, Concat, Intrinsic, Jump, JumpIf, Write as WriteInstr, Return}}}, Code.{Code, body_of, begins_of, locals_of, begins_at, text_at, throwable, class_units, overflow, out_of_memory}}
 
 -- A thread: at a place with its operands, the topmost first, and its locals; its last call has returned; it rests.
 -- Lost is a thread that found no instruction, no operand or one of the wrong shape: it does nothing more.

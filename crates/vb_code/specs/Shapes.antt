@@ -1,15 +1,8 @@
 -- Checked code: each instruction that is reached finds its operands, and what it names is there (ECMA-335, III.1.8).
 use Rattle.std.specs.Prelude.{◌≡◌, ℕ, ◌+◌, ◌<◌, List, [], ◌∷◌, map, length, Option, Some, slice_get, IsSome}
-use Rattle.vb_num.specs.declared.kinds.Kind.{Kind}
-use Rattle.vb_num.specs.declared.kinds.Kind.TheVariants.{Integer}
-use Rattle.vb_value.specs.declared.value.Shape.{Shape}
-use Rattle.vb_value.specs.declared.value.Shape.TheVariants.{Num, Bool as Truth, Text}
-use Rattle.vb_value.specs.Datum.{shape_of}
-use Rattle.vb_code.specs.declared.instr.Silent.TheVariants.{TextOf}
-use Rattle.vb_code.specs.declared.instr.Instr.{Instr}
-use Rattle.vb_code.specs.declared.instr.Instr.TheVariants.{Push, PushText, LoadLocal, StoreLocal, Arith, Compare, Concat, Intrinsic, Jump, JumpIf, Write, Return}
-use Rattle.vb_code.specs.Code.{Code, body_of, locals_of, throwable, overflow, out_of_memory}
-use Rattle.vb_code.specs.Machine.{CodeThread, At, Returned, Gone, Lost}
+use Rattle.vb_num.specs.declared.kinds.Kind.{Kind, TheVariants.Integer}
+use Rattle.vb_value.specs.{declared.value.Shape.{Shape, TheVariants.{Num, Bool as Truth, Text}}, Datum.shape_of}
+use Rattle.vb_code.specs.{declared.instr.{Silent.TheVariants.TextOf, Instr.{Instr, TheVariants.{Push, PushText, LoadLocal, StoreLocal, Arith, Compare, Concat, Intrinsic, Jump, JumpIf, Write, Return}}}, Code.{Code, body_of, locals_of, throwable, overflow, out_of_memory}, Machine.{CodeThread, At, Returned, Gone, Lost}}
 
 -- the shapes of the operands before a place, the topmost first
 abbrev pub Shapes : Type 0

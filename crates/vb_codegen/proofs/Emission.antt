@@ -3,20 +3,10 @@ use Rattle.std.proofs.Common.{◌≡◌, ℕ, ◌+◌, ◌<◌, ◌≤◌, Optio
 use Rattle.std.specs.Prelude.{slice_set, Result, Ok, Err, OnOk}
 use Rattle.std.proofs.lemmas.List.{length-set, append-nil, drop_all}
 use Rattle.std.proofs.Math.Seq.{set-append_seam, drop-cons}
-use Rattle.vb_bound.specs.declared.tree.Condition.{Condition}
-use Rattle.vb_bound.specs.declared.tree.Operand.{Operand}
-use Rattle.vb_bound.specs.declared.tree.Statement.{Statement}
-use Rattle.vb_bound.specs.declared.tree.Line.{Line}
-use Rattle.vb_bound.specs.declared.tree.Line.TheVariants.{Does, While, EndWhile}
-use Rattle.vb_bound.specs.Tree.{Block, Done, Then, Loop, Tree, Outline, IsOutlineOf, lines_of}
-use Rattle.vb_code.specs.declared.instr.Instr.TheVariants.{Jump, Return}
-use Rattle.vb_code.specs.declared.instr.Step.{Step}
-use Rattle.vb_code.specs.declared.code.Class.{Class}
-use Rattle.vb_code.specs.Code.{Procedure, code_with, procedure_of}
+use Rattle.vb_bound.specs.{declared.tree.{Condition.Condition, Operand.Operand, Statement.Statement, Line.{Line, TheVariants.{Does, While, EndWhile}}}, Tree.{Block, Done, Then, Loop, Tree, Outline, IsOutlineOf, lines_of}}
+use Rattle.vb_code.specs.{declared.{instr.{Instr.TheVariants.{Jump, Return}, Step.Step}, code.Class.Class}, Code.{Procedure, code_with, procedure_of}}
 use Rattle.vb_value.specs.declared.value.Shape.{Shape}
-use Rattle.vb_codegen.specs.declared.lines.OpenLoop.{OpenLoop}
-use Rattle.vb_codegen.specs.Emitted.{step, statement_code, test_code, block_code, locals_code, front_code, body_code, main_code, texts, classes, integers, code_of}
-use Rattle.vb_codegen.specs.Emission.{open_at, closed, Completes, last, inside, CanComplete, Goes}
+use Rattle.vb_codegen.specs.{declared.lines.OpenLoop.OpenLoop, Emitted.{step, statement_code, test_code, block_code, locals_code, front_code, body_code, main_code, texts, classes, integers, code_of}, Emission.{open_at, closed, Completes, last, inside, CanComplete, Goes}}
 
 -- the code of a block behind these instructions
 abbrev with_block : List Step → Block → List Step

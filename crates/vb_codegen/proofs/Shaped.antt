@@ -4,21 +4,8 @@ use Rattle.std.specs.Prelude.{slice_get, IsSome}
 use Rattle.std.proofs.lemmas.List.{length-map}
 use Rattle.vb_num.specs.declared.kinds.Kind.TheVariants.{Integer}
 use Rattle.vb_value.specs.declared.value.Shape.TheVariants.{Num, Bool as Truth, Text}
-use Rattle.vb_bound.specs.declared.tree.Operand.{Operand}
-use Rattle.vb_bound.specs.declared.tree.Operand.TheVariants.{Local, Number}
-use Rattle.vb_bound.specs.declared.tree.Expr.{Expr}
-use Rattle.vb_bound.specs.declared.tree.Expr.TheVariants.{One, Two}
-use Rattle.vb_bound.specs.declared.tree.Condition.{Condition}
-use Rattle.vb_bound.specs.declared.tree.Statement.{Statement}
-use Rattle.vb_bound.specs.declared.tree.Statement.TheVariants.{Assign, WriteLine}
-use Rattle.vb_bound.specs.declared.tree.Line.{Line}
-use Rattle.vb_bound.specs.declared.tree.Line.TheVariants.{EndWhile}
-use Rattle.vb_bound.specs.Tree.{Block, Done, Then, Loop, Tree, Outline, IsOutlineOf, IsBound, lines_of, IsOperandOf, IsExprOf, IsStatementOf, AreLocals, AreLines}
-use Rattle.vb_code.specs.declared.instr.Instr.{Instr}
-use Rattle.vb_code.specs.declared.instr.Instr.TheVariants.{StoreLocal, Return}
-use Rattle.vb_code.specs.declared.instr.Step.{Step}
-use Rattle.vb_code.specs.Code.{Code, locals_of, throwable, overflow, out_of_memory}
-use Rattle.vb_code.specs.Shapes.{Shapes, Turns, leads_to, AllHave, IsChecked}
+use Rattle.vb_bound.specs.{declared.tree.{Operand.{Operand, TheVariants.{Local, Number}}, Expr.{Expr, TheVariants.{One, Two}}, Condition.Condition, Statement.{Statement, TheVariants.{Assign, WriteLine}}, Line.{Line, TheVariants.EndWhile}}, Tree.{Block, Done, Then, Loop, Tree, Outline, IsOutlineOf, IsBound, lines_of, IsOperandOf, IsExprOf, IsStatementOf, AreLocals, AreLines}}
+use Rattle.vb_code.specs.{declared.instr.{Instr.{Instr, TheVariants.{StoreLocal, Return}}, Step.Step}, Code.{Code, locals_of, throwable, overflow, out_of_memory}, Shapes.{Shapes, Turns, leads_to, AllHave, IsChecked}}
 use Rattle.vb_codegen.specs.Emitted.{step, instr_of, expr_code, line_code, statement_code, locals_code, test_code, block_code, front_code, main_code, integers, code_of}
 use Rattle.vb_codegen.proofs.Placed.{HasAt, has_front, has_back, has_all}
 

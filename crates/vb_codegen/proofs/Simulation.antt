@@ -4,31 +4,12 @@ use Rattle.std.specs.Prelude.{slice_get, slice_set, slice_index_or, nat_le, ifâ—
 use Rattle.std.specs.Fmt.{signed_decimal}
 use Rattle.vb_num.specs.declared.kinds.Kind.TheVariants.{Integer}
 use Rattle.vb_text.specs.Units.{most_units}
-use Rattle.vb_threads.specs.Machine.{Threw, Silent, Asks}
-use Rattle.vb_threads.specs.Same.{Equal, EqualFor}
-use Rattle.vb_threads.specs.Steps.{GoesWith}
+use Rattle.vb_threads.specs.{Machine.{Threw, Silent, Asks}, Same.{Equal, EqualFor}, Steps.GoesWith}
 use Rattle.vb_threads.proofs.Steps.{meet, alone, both, skip, end, more, ask}
-use Rattle.vb_value.specs.Datum.{Datum, Number, Letters, Truth}
-use Rattle.vb_value.specs.Store.{New, Write as AsksWrite}
-use Rattle.vb_bound.specs.declared.tree.Operand.{Operand}
-use Rattle.vb_bound.specs.declared.tree.Operand.TheVariants.{Local, Number as NumberOperand}
-use Rattle.vb_bound.specs.declared.tree.Operator.{Operator}
-use Rattle.vb_bound.specs.declared.tree.Operator.TheVariants.{Add, Sub, Mul}
-use Rattle.vb_bound.specs.declared.tree.Relation.{Relation}
-use Rattle.vb_bound.specs.declared.tree.Relation.TheVariants.{Equal as IsEqual, NotEqual, Less, LessOrEqual, Greater, GreaterOrEqual}
-use Rattle.vb_bound.specs.declared.tree.Expr.{Expr}
-use Rattle.vb_bound.specs.declared.tree.Expr.TheVariants.{One, Two}
-use Rattle.vb_bound.specs.declared.tree.Condition.{Condition}
-use Rattle.vb_bound.specs.declared.tree.Statement.{Statement}
-use Rattle.vb_bound.specs.declared.tree.Statement.TheVariants.{Assign, WriteLine}
-use Rattle.vb_bound.specs.Tree.{Block, Done, Then, Loop, Tree}
+use Rattle.vb_value.specs.{Datum.{Datum, Number, Letters, Truth}, Store.{New, Write as AsksWrite}}
+use Rattle.vb_bound.specs.{declared.tree.{Operand.{Operand, TheVariants.{Local, Number as NumberOperand}}, Operator.{Operator, TheVariants.{Add, Sub, Mul}}, Relation.{Relation, TheVariants.{Equal as IsEqual, NotEqual, Less, LessOrEqual, Greater, GreaterOrEqual}}, Expr.{Expr, TheVariants.{One, Two}}, Condition.Condition, Statement.{Statement, TheVariants.{Assign, WriteLine}}}, Tree.{Block, Done, Then, Loop, Tree}}
 use Rattle.vb_meaning.specs.Source.{Pending, Declares, Does, Acts, Tests, SourceThread, Going, SourceNext, source_next, operand_value, arithmetic, value_of, related, line_text, throws as source_throws, or_overflows, writes, decided}
-use Rattle.vb_code.specs.declared.instr.Instr.TheVariants.{PushText, StoreLocal, Arith, Compare, Concat, Intrinsic, Jump, JumpIf, Write, Return}
-use Rattle.vb_code.specs.declared.instr.Silent.TheVariants.{TextOf}
-use Rattle.vb_code.specs.declared.instr.Mark.TheVariants.{Always}
-use Rattle.vb_code.specs.declared.instr.Step.{Step}
-use Rattle.vb_code.specs.Code.{Code, body_of, begins_of as code_begins, begins_from, begins_at, text_at, overflow, out_of_memory}
-use Rattle.vb_code.specs.Machine.{CodeThread, At, Returned, Gone, CodeNext, code_next, act, fetched, throws, or_throws, arith_of, compared}
+use Rattle.vb_code.specs.{declared.instr.{Instr.TheVariants.{PushText, StoreLocal, Arith, Compare, Concat, Intrinsic, Jump, JumpIf, Write, Return}, Silent.TheVariants.TextOf, Mark.TheVariants.Always, Step.Step}, Code.{Code, body_of, begins_of as code_begins, begins_from, begins_at, text_at, overflow, out_of_memory}, Machine.{CodeThread, At, Returned, Gone, CodeNext, code_next, act, fetched, throws, or_throws, arith_of, compared}}
 use Rattle.vb_code.proofs.Steps.{instr_there, begins_of_step}
 use Rattle.vb_codegen.specs.Emitted.{step, instr_of, arithmetic_of, comparison_of, expr_code, line_code, statement_code, locals_code, test_code, block_code}
 use Rattle.vb_codegen.proofs.Placed.{HasAt, has_front, has_back}

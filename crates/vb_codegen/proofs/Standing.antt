@@ -2,25 +2,14 @@
 use Rattle.std.proofs.Common.{◌≡◌, ℕ, ◌+◌, false, List, [], ◌∷◌, ◌++◌, map, length, replicate, pos, Option, Some, refl, ap, ◌∙◌, subst, arith, length-append}
 use Rattle.std.specs.Prelude.{slice_get}
 use Rattle.vb_num.specs.declared.kinds.Kind.TheVariants.{Integer}
-use Rattle.vb_threads.specs.Machine.{Silent}
-use Rattle.vb_threads.specs.World.{Entry, World, Run, opening}
-use Rattle.vb_threads.specs.Same.{Equal, EqualFor}
-use Rattle.vb_threads.specs.Stands.{StandsFor}
-use Rattle.vb_threads.specs.Steps.{BySteps}
-use Rattle.vb_threads.specs.Work.{IsWithin}
-use Rattle.vb_threads.proofs.Law.{rows_equal}
-use Rattle.vb_threads.proofs.Steps.{meet, both, more, stands_by_steps, within_by_steps}
-use Rattle.vb_value.specs.Datum.{Number, default_of}
-use Rattle.vb_value.specs.Store.{Store}
-use Rattle.vb_bound.specs.declared.tree.Operand.{Operand}
-use Rattle.vb_bound.specs.Tree.{Tree}
+use Rattle.vb_threads.specs.{Machine.Silent, World.{Entry, World, Run, opening}, Same.{Equal, EqualFor}, Stands.StandsFor, Steps.BySteps, Work.IsWithin}
+use Rattle.vb_threads.proofs.{Law.rows_equal, Steps.{meet, both, more, stands_by_steps, within_by_steps}}
+use Rattle.vb_value.specs.{Datum.{Number, default_of}, Store.Store}
+use Rattle.vb_bound.specs.{declared.tree.Operand.Operand, Tree.Tree}
 use Rattle.vb_meaning.specs.Source.{Calls-main, Declares, Does, Going, source_machine}
-use Rattle.vb_code.specs.declared.instr.Instr.TheVariants.{Jump, Return}
-use Rattle.vb_code.specs.Code.{Code}
-use Rattle.vb_code.specs.Machine.{CodeThread, At, code_machine}
+use Rattle.vb_code.specs.{declared.instr.Instr.TheVariants.{Jump, Return}, Code.Code, Machine.{CodeThread, At, code_machine}}
 use Rattle.vb_codegen.specs.Emitted.{step, locals_code, block_code, front_code, main_code, integers, code_of}
-use Rattle.vb_codegen.proofs.Placed.{HasAt, has_front, has_back, has_all}
-use Rattle.vb_codegen.proofs.Simulation.{IsCodeOf, numbers, Leads, ends, declares, does, Between, between, Goes, goes_on, returned, turn}
+use Rattle.vb_codegen.proofs.{Placed.{HasAt, has_front, has_back, has_all}, Simulation.{IsCodeOf, numbers, Leads, ends, declares, does, Between, between, Goes, goes_on, returned, turn}}
 
 -- at most 256 turns come for each beginning
 abbrev pub IsPacedCode : Code → Type 0

@@ -1,13 +1,8 @@
 -- Code of which a front is emitted.
 use Rattle.std.specs.Prelude.{◌≡◌, ℕ, ◌+◌, ◌<◌, List, [], ◌∷◌, ◌++◌, length, slice_set}
-use Rattle.vb_bound.specs.declared.tree.Condition.{Condition}
-use Rattle.vb_bound.specs.declared.tree.Line.{Line}
-use Rattle.vb_bound.specs.declared.tree.Line.TheVariants.{EndWhile}
-use Rattle.vb_bound.specs.Tree.{Block, lines_of}
-use Rattle.vb_code.specs.declared.instr.Instr.TheVariants.{Jump}
-use Rattle.vb_code.specs.declared.instr.Step.{Step}
-use Rattle.vb_codegen.specs.declared.lines.OpenLoop.{OpenLoop}
-use Rattle.vb_codegen.specs.Emitted.{step, test_code, block_code}
+use Rattle.vb_bound.specs.{declared.tree.{Condition.Condition, Line.{Line, TheVariants.EndWhile}}, Tree.{Block, lines_of}}
+use Rattle.vb_code.specs.declared.instr.{Instr.TheVariants.Jump, Step.Step}
+use Rattle.vb_codegen.specs.{declared.lines.OpenLoop.OpenLoop, Emitted.{step, test_code, block_code}}
 
 -- a loop whose jump stands at this place
 abbrev pub open_at : ℕ → Condition → OpenLoop

@@ -1,32 +1,9 @@
 -- The code of a tree.
 use Rattle.std.specs.Prelude.{ℕ, ◌+◌, List, [], ◌∷◌, ◌++◌, map, length, Option, Some, None, codes}
 use Rattle.vb_num.specs.declared.kinds.Kind.TheVariants.{Integer}
-use Rattle.vb_value.specs.declared.value.Shape.{Shape}
-use Rattle.vb_value.specs.declared.value.Shape.TheVariants.{Num}
-use Rattle.vb_bound.specs.declared.tree.Operand.{Operand}
-use Rattle.vb_bound.specs.declared.tree.Operand.TheVariants.{Local, Number}
-use Rattle.vb_bound.specs.declared.tree.Operator.{Operator}
-use Rattle.vb_bound.specs.declared.tree.Operator.TheVariants.{Add, Sub, Mul}
-use Rattle.vb_bound.specs.declared.tree.Relation.{Relation}
-use Rattle.vb_bound.specs.declared.tree.Relation.TheVariants.{Equal, NotEqual, Less, LessOrEqual, Greater, GreaterOrEqual}
-use Rattle.vb_bound.specs.declared.tree.Expr.{Expr}
-use Rattle.vb_bound.specs.declared.tree.Expr.TheVariants.{One, Two}
-use Rattle.vb_bound.specs.declared.tree.Condition.{Condition}
-use Rattle.vb_bound.specs.declared.tree.Statement.{Statement}
-use Rattle.vb_bound.specs.declared.tree.Statement.TheVariants.{Assign, WriteLine}
-use Rattle.vb_bound.specs.Tree.{Block, Done, Then, Loop, Tree}
-use Rattle.vb_code.specs.declared.instr.Constant.TheVariants.{Integer as IntegerConstant}
-use Rattle.vb_code.specs.declared.instr.Arithmetic.{Arithmetic}
-use Rattle.vb_code.specs.declared.instr.Arithmetic.TheVariants.{Add as Adds, Sub as Subtracts, Mul as Multiplies}
-use Rattle.vb_code.specs.declared.instr.Comparison.{Comparison}
-use Rattle.vb_code.specs.declared.instr.Comparison.TheVariants.{Equal as IsEqual, NotEqual as IsNotEqual, Less as IsLess, LessOrEqual as IsLessOrEqual, Greater as IsGreater, GreaterOrEqual as IsGreaterOrEqual}
-use Rattle.vb_code.specs.declared.instr.Silent.TheVariants.{TextOf}
-use Rattle.vb_code.specs.declared.instr.Mark.TheVariants.{Always}
-use Rattle.vb_code.specs.declared.instr.Instr.{Instr}
-use Rattle.vb_code.specs.declared.instr.Instr.TheVariants.{Push, PushText, LoadLocal, StoreLocal, Arith, Compare, Concat, Intrinsic, Jump, JumpIf, Write, Return}
-use Rattle.vb_code.specs.declared.instr.Step.{Step}
-use Rattle.vb_code.specs.declared.code.Class.{Class}
-use Rattle.vb_code.specs.Code.{Code, code_with, procedure_of}
+use Rattle.vb_value.specs.declared.value.Shape.{Shape, TheVariants.Num}
+use Rattle.vb_bound.specs.{declared.tree.{Operand.{Operand, TheVariants.{Local, Number}}, Operator.{Operator, TheVariants.{Add, Sub, Mul}}, Relation.{Relation, TheVariants.{Equal, NotEqual, Less, LessOrEqual, Greater, GreaterOrEqual}}, Expr.{Expr, TheVariants.{One, Two}}, Condition.Condition, Statement.{Statement, TheVariants.{Assign, WriteLine}}}, Tree.{Block, Done, Then, Loop, Tree}}
+use Rattle.vb_code.specs.{declared.{instr.{Constant.TheVariants.Integer as IntegerConstant, Arithmetic.{Arithmetic, TheVariants.{Add as Adds, Sub as Subtracts, Mul as Multiplies}}, Comparison.{Comparison, TheVariants.{Equal as IsEqual, NotEqual as IsNotEqual, Less as IsLess, LessOrEqual as IsLessOrEqual, Greater as IsGreater, GreaterOrEqual as IsGreaterOrEqual}}, Silent.TheVariants.TextOf, Mark.TheVariants.Always, Instr.{Instr, TheVariants.{Push, PushText, LoadLocal, StoreLocal, Arith, Compare, Concat, Intrinsic, Jump, JumpIf, Write, Return}}, Step.Step}, code.Class.Class}, Code.{Code, code_with, procedure_of}}
 
 abbrev pub step : ℕ → Instr → Step
 step begins instr = record { begins = begins; instr = instr }

@@ -4,8 +4,7 @@ use Rattle.std.proofs.lemmas.Cmp.{ranked}
 use Rattle.std.specs.declared.cmp.Ordering.{Ordering}
 use Rattle.std.specs.declared.cmp.Ordering.TheVariants.{Less, Equal, Greater}
 use Rattle.std.specs.Ordering.{MatchOrdering, nat_cmp, ordering_then, is_lt}
-use Rattle.vb_diag.specs.declared.refusal.Refusal.{Refusal}
-use Rattle.vb_diag.specs.Broken.{IsNotAfter, told_order, IsLeastBy, IsLeast, IsLeastLine, lesser_by, InFile, OfRule, broken_at}
+use Rattle.vb_diag.specs.{declared.refusal.Refusal.Refusal, Broken.{IsNotAfter, told_order, IsLeastBy, IsLeast, IsLeastLine, lesser_by, InFile, OfRule, broken_at}}
 
 -- The relation is an order, and the comparison tells it.
 pub record IsOrder {X : Type 0} (NotAfter : X → X → Type 0) (order : X → X → Ordering) : Type 0 where

@@ -2,10 +2,8 @@
 use Rattle.std.proofs.Common.{◌≡◌, ℕ, ◌+◌, ◌-◌, ◌<◌, ◌≤◌, nat_lt, Bool, true, false, if◌then◌else◌, List, [], ◌∷◌, ◌++◌, reverse, length, slice_index_or, slice_set, refl, sym, ◌∙◌, ap, subst, arith, length-append}
 use Rattle.std.proofs.lemmas.List.{reverse-append, get_or-set_same, get_or-set_other}
 use Rattle.std.proofs.lemmas.Grind.{common_steps}
-use Rattle.vb_ends.specs.declared.role.Sort.{Sort}
+use Rattle.vb_ends.specs.{declared.{role.Sort.Sort, stack.Open.Open}, Counts.{number, same_sort, holds, count, AreCounts}}
 use Rattle.vb_ends.specs.declared.role.Sort.TheVariants as sort
-use Rattle.vb_ends.specs.declared.stack.Open.{Open}
-use Rattle.vb_ends.specs.Counts.{number, same_sort, holds, count, AreCounts}
 use Rattle.vb_ends.proofs.Sorts.{same_is, same_self, number_not}
 
 count_cons : (s : Sort) (x : Open) (xs : List Open) → count s (x ∷ xs) ≡ (if same_sort x.sort s then count s xs + 1 else count s xs)

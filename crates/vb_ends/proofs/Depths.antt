@@ -2,15 +2,8 @@
 use Rattle.std.proofs.Common.{◌≡◌, ◌⊎◌, inl, inr, ℕ, ◌+◌, ◌<◌, ◌≤◌, List, [], ◌∷◌, reverse, length, take, drop, get_or, Option, refl, sym, ◌∙◌, ap, subst, arith}
 use Rattle.std.proofs.lemmas.List.{length-reverse, reverse-append, take_more, drop_more}
 use Rattle.vb_syntax.specs.declared.item.Row.{Row}
-use Rattle.vb_ends.specs.declared.blocks.Blocks.{Blocks}
-use Rattle.vb_ends.specs.declared.role.Mark.{Mark}
-use Rattle.vb_ends.specs.Depth.{AreSoMany, IsDeep, IsTooDeep}
-use Rattle.vb_ends.specs.Enders.{Block, IsAmong, AreNested, IsLeast}
-use Rattle.vb_ends.specs.Reading.{next_item}
-use Rattle.vb_ends.specs.Roles.{marks_of}
-use Rattle.vb_ends.specs.Stack.{Tracks, lesser_of, kept}
-use Rattle.vb_ends.proofs.Machine.{least_same, least_one}
-use Rattle.vb_ends.proofs.Nesting.{below}
+use Rattle.vb_ends.specs.{declared.{blocks.Blocks.Blocks, role.Mark.Mark}, Depth.{AreSoMany, IsDeep, IsTooDeep}, Enders.{Block, IsAmong, AreNested, IsLeast}, Reading.next_item, Roles.marks_of, Stack.{Tracks, lesser_of, kept}}
+use Rattle.vb_ends.proofs.{Machine.{least_same, least_one}, Nesting.below}
 
 -- HOW MANY
 

@@ -2,18 +2,9 @@
 use Rattle.std.proofs.Common.{◌≡◌, ◌⊎◌, inl, inr, ℕ, ◌<◌, ◌≤◌, nat_lt, Bool, true, false, if◌then◌else◌, List, [], ◌∷◌, ◌++◌, reverse, length, Option, None, Some, Result, Ok, Err, OnOk, refl, sym, ◌∙◌, ap, subst, arith}
 use Rattle.std.proofs.lemmas.List.{reverse-append}
 use Rattle.std.proofs.lemmas.Grind.{common_steps}
-use Rattle.vb_ends.specs.declared.role.Sort.{Sort}
-use Rattle.vb_ends.specs.declared.role.Role.{Role}
+use Rattle.vb_ends.specs.{declared.{role.{Sort.Sort, Role.Role, Mark.Mark}, stack.Open.Open}, Enders.{Block, block, is_statement, Stops, IsOpen, BreaksBackwards, IsLeast, IsAmong, AreOpen}, Counts.{same_sort, holds}, Stack.{State, lesser_of, passed, ended_statement, ended_other, stepped, left, IsState, kept, HasNoBlock, SomeMarkBreaks}, Brackets.{mark_opens, mark_ends, mark_stays}}
 use Rattle.vb_ends.specs.declared.role.Role.TheVariants as role
-use Rattle.vb_ends.specs.declared.role.Mark.{Mark}
-use Rattle.vb_ends.specs.declared.stack.Open.{Open}
-use Rattle.vb_ends.specs.Enders.{Block, block, is_statement, Stops, IsOpen, BreaksBackwards, IsLeast, IsAmong, AreOpen}
-use Rattle.vb_ends.specs.Counts.{same_sort, holds}
-use Rattle.vb_ends.specs.Stack.{State, lesser_of, passed, ended_statement, ended_other, stepped, left, IsState, kept, HasNoBlock, SomeMarkBreaks}
-use Rattle.vb_ends.proofs.Partners.{IsDecided, there, back}
-use Rattle.vb_ends.proofs.Sorts.{same_is, same_not}
-use Rattle.vb_ends.proofs.Nesting.{IsLineOf, closes, Found, open_more, open_same, open_less, open_still, breaks_found, found_breaks, breaks_alone, alone_breaks, none_in_none, none_of_statement, none_of_sort}
-use Rattle.vb_ends.specs.Brackets.{mark_opens, mark_ends, mark_stays}
+use Rattle.vb_ends.proofs.{Partners.{IsDecided, there, back}, Sorts.{same_is, same_not}, Nesting.{IsLineOf, closes, Found, open_more, open_same, open_less, open_still, breaks_found, found_breaks, breaks_alone, alone_breaks, none_in_none, none_of_statement, none_of_sort}}
 
 -- THE INNERMOST BLOCK IS THE LAST
 

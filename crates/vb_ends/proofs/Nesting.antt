@@ -1,10 +1,6 @@
 -- What an ender does to blocks that stand one inside the other.
 use Rattle.std.proofs.Common.{◌≡◌, ◌⊎◌, inl, inr, ℕ, ◌<◌, ◌≤◌, true, List, [], ◌∷◌, ◌++◌, length, refl, sym, ◌∙◌, ap, arith}
-use Rattle.vb_ends.specs.declared.role.Sort.{Sort}
-use Rattle.vb_ends.specs.declared.role.Mark.{Mark}
-use Rattle.vb_ends.specs.Enders.{Block, block, is_statement, Stops, Closes, IsOpen, IsAmong, AreNested, AreOpen}
-use Rattle.vb_ends.specs.Brackets.{mark_opens, mark_ends, mark_stays}
-use Rattle.vb_ends.specs.Stack.{HasNoBlock, SomeMarkBreaks}
+use Rattle.vb_ends.specs.{declared.role.{Sort.Sort, Mark.Mark}, Enders.{Block, block, is_statement, Stops, Closes, IsOpen, IsAmong, AreNested, AreOpen}, Brackets.{mark_opens, mark_ends, mark_stays}, Stack.{HasNoBlock, SomeMarkBreaks}}
 
 -- a line is that of one of the blocks
 abbrev pub IsLineOf : List Block → ℕ → Type 0

@@ -1,19 +1,9 @@
 -- A file breaks the rule nowhere exactly where its blocks stand as brackets do.
 use Rattle.std.proofs.Common.{◌≡◌, inl, inr, ℕ, Bool, true, false, if◌then◌else◌, List, [], ◌∷◌, ◌++◌, reverse, length, None, refl, sym, ◌∙◌, ap, subst, append_assoc, append-nil}
 use Rattle.std.proofs.lemmas.List.{reverse-append, reverse-reverse}
-use Rattle.vb_ends.specs.declared.role.Sort.{Sort}
-use Rattle.vb_ends.specs.declared.role.Role.{Role}
+use Rattle.vb_ends.specs.{declared.{role.{Sort.Sort, Role.Role, Mark.Mark}, stack.Open.Open}, Enders.{Block, is_statement, Closes, IsOpen, IsBroken, BreaksBackwards, IsLeast, IsAmong, AreOpen}, Brackets.{mark_opens, mark_ends, mark_stays, AreBrackets, nothing, simple, block}, Counts.{same_sort, holds}, Stack.{State, stepped, ended_statement, ended_other, passed, left, SomeMarkBreaks}}
 use Rattle.vb_ends.specs.declared.role.Role.TheVariants as role
-use Rattle.vb_ends.specs.declared.role.Mark.{Mark}
-use Rattle.vb_ends.specs.declared.stack.Open.{Open}
-use Rattle.vb_ends.specs.Enders.{Block, is_statement, Closes, IsOpen, IsBroken, BreaksBackwards, IsLeast, IsAmong, AreOpen}
-use Rattle.vb_ends.specs.Brackets.{mark_opens, mark_ends, mark_stays, AreBrackets, nothing, simple, block}
-use Rattle.vb_ends.specs.Counts.{same_sort, holds}
-use Rattle.vb_ends.specs.Stack.{State, stepped, ended_statement, ended_other, passed, left, SomeMarkBreaks}
-use Rattle.vb_ends.proofs.Sorts.{same_self}
-use Rattle.vb_ends.proofs.Nesting.{below, open_more, open_same, open_less}
-use Rattle.vb_ends.proofs.Partners.{IsDecided, there}
-use Rattle.vb_ends.proofs.Machine.{run, run_is, decided, state_last}
+use Rattle.vb_ends.proofs.{Sorts.same_self, Nesting.{below, open_more, open_same, open_less}, Partners.{IsDecided, there}, Machine.{run, run_is, decided, state_last}}
 
 -- FROM THE END
 

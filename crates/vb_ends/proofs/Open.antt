@@ -1,16 +1,8 @@
 -- Where each ender closes the innermost block, the blocks that are left open have no end.
 use Rattle.std.proofs.Common.{◌≡◌, ℕ, nat_lt, Bool, true, false, if◌then◌else◌, List, [], ◌∷◌, map, Option, Some, None, refl, ◌∙◌, ap, subst}
-use Rattle.vb_ends.specs.declared.role.Sort.{Sort}
+use Rattle.vb_ends.specs.{declared.{role.{Sort.Sort, Mark.Mark}, stack.Open.Open}, Enders.{BreaksBackwards, IsLeast, is_statement}, Counts.{same_sort, holds}, Roles.{AreOpenBehind, nothing, opens, ends, stays}, Stack.{State, lesser_of, stepped, ended_statement, ended_other, passed, left}}
 use Rattle.vb_ends.specs.declared.role.Role.TheVariants as role
-use Rattle.vb_ends.specs.declared.role.Mark.{Mark}
-use Rattle.vb_ends.specs.declared.stack.Open.{Open}
-use Rattle.vb_ends.specs.Enders.{BreaksBackwards, IsLeast, is_statement}
-use Rattle.vb_ends.specs.Counts.{same_sort, holds}
-use Rattle.vb_ends.specs.Roles.{AreOpenBehind, nothing, opens, ends, stays}
-use Rattle.vb_ends.specs.Stack.{State, lesser_of, stepped, ended_statement, ended_other, passed, left}
-use Rattle.vb_ends.proofs.Sorts.{same_self}
-use Rattle.vb_ends.proofs.Machine.{run, run_is, state_last}
-use Rattle.vb_ends.proofs.Nests.{pick}
+use Rattle.vb_ends.proofs.{Sorts.same_self, Machine.{run, run_is, state_last}, Nests.pick}
 
 -- the sorts of the blocks that are open
 abbrev sorts_of : State → List Sort

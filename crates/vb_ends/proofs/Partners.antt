@@ -1,12 +1,8 @@
 -- A block without an ender was passed by the ender of one round it, or is open at the end.
 use Rattle.std.proofs.Common.{◌≡◌, ◌⊎◌, inl, inr, ℕ, ◌<◌, List, [], ◌∷◌, length, sym, ◌∙◌, ap, subst, arith}
 use Rattle.std.proofs.lemmas.Bool.{cases_lt}
-use Rattle.vb_ends.specs.declared.role.Sort.{Sort}
-use Rattle.vb_ends.specs.declared.role.Role.{Role}
+use Rattle.vb_ends.specs.{declared.role.{Sort.Sort, Role.Role, Mark.Mark}, Enders.{Block, Closes, IsOpen, IsStray, HasOpener, HasEnder, HasStray, BreaksBackwards}, Stack.{HasNoBlock, IsPassed, MarkBreaks, SomeMarkBreaks, IsLeftOpen}}
 use Rattle.vb_ends.specs.declared.role.Role.TheVariants as role
-use Rattle.vb_ends.specs.declared.role.Mark.{Mark}
-use Rattle.vb_ends.specs.Enders.{Block, Closes, IsOpen, IsStray, HasOpener, HasEnder, HasStray, BreaksBackwards}
-use Rattle.vb_ends.specs.Stack.{HasNoBlock, IsPassed, MarkBreaks, SomeMarkBreaks, IsLeftOpen}
 
 -- where these are open, an ender of the sort closes a block, or has none
 abbrev pub IsDecided : (Block → Type 0) → Sort → Type 0

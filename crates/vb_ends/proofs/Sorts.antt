@@ -1,9 +1,8 @@
 -- Sorts of one number are one.
 use Rattle.std.proofs.Common.{◌≡◌, ◌≢◌, true, false, List, [], ◌∷◌, get_or, refl, sym, ◌∙◌, ap, eq-eqb, arith}
 use Rattle.std.proofs.lemmas.Grind.{common_steps}
-use Rattle.vb_ends.specs.declared.role.Sort.{Sort}
+use Rattle.vb_ends.specs.{declared.role.Sort.Sort, Counts.{number, same_sort}}
 use Rattle.vb_ends.specs.declared.role.Sort.TheVariants as sort
-use Rattle.vb_ends.specs.Counts.{number, same_sort}
 
 sorts : List Sort
 sorts = sort.If ∷ sort.While ∷ sort.Do ∷ sort.For ∷ sort.Select ∷ sort.Try ∷ sort.SyncLock ∷ sort.With ∷ sort.Using ∷ sort.Sub ∷ sort.Function ∷ sort.Property ∷ sort.Get ∷ sort.Set ∷ sort.Event ∷ sort.AddHandler ∷ sort.RemoveHandler ∷ sort.RaiseEvent ∷ sort.Module ∷ sort.Class ∷ sort.Interface ∷ []

@@ -1,9 +1,8 @@
 -- Marks whose blocks stand one behind or inside the other, as brackets do. Here the marks are listed from the beginning of
 -- a file.
 use Rattle.std.specs.Prelude.{ℕ, List, [], ◌∷◌, ◌++◌}
-use Rattle.vb_ends.specs.declared.role.Sort.{Sort}
+use Rattle.vb_ends.specs.declared.role.{Sort.Sort, Mark.Mark}
 use Rattle.vb_ends.specs.declared.role.Role.TheVariants as role
-use Rattle.vb_ends.specs.declared.role.Mark.{Mark}
 
 abbrev pub mark_opens : Sort → ℕ → Mark
 mark_opens s line = record { role = role.Opens s; line = line }

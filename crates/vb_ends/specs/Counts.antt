@@ -1,8 +1,7 @@
 -- How many blocks of each sort are open.
 use Rattle.std.specs.Prelude.{◌≡◌, ℕ, ◌+◌, ◌==◌, Bool, true, false, if◌then◌else◌, List, [], ◌∷◌, slice_index_or}
-use Rattle.vb_ends.specs.declared.role.Sort.{Sort}
+use Rattle.vb_ends.specs.declared.{role.Sort.Sort, stack.Open.Open}
 use Rattle.vb_ends.specs.declared.role.Sort.TheVariants as sort
-use Rattle.vb_ends.specs.declared.stack.Open.{Open}
 
 -- each sort by a number
 abbrev pub number : Sort → ℕ

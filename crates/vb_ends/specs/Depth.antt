@@ -2,9 +2,7 @@
 -- the greatest number of them that are open at one of its tokens.
 use Rattle.std.specs.Prelude.{◌≡◌, ◌⊎◌, ℕ, ◌+◌, ◌<◌, List, [], ◌∷◌, length}
 use Rattle.vb_syntax.specs.declared.item.Row.{Row}
-use Rattle.vb_ends.specs.declared.role.Mark.{Mark}
-use Rattle.vb_ends.specs.Enders.{Block, AreOpen}
-use Rattle.vb_ends.specs.Roles.{marks_of}
+use Rattle.vb_ends.specs.{declared.role.Mark.Mark, Enders.{Block, AreOpen}, Roles.marks_of}
 
 -- So many blocks are open behind these marks.
 pub record AreSoMany (marks : List Mark) (n : ℕ) : Type 0 where

@@ -1,11 +1,9 @@
 -- Which blocks of a file are open, and where a block has no end or an end has no block. The marks of a file are listed from
 -- its end: the last stands first, and behind each mark those before it.
 use Rattle.std.specs.Prelude.{◌≡◌, ◌⊎◌, ℕ, ◌<◌, ◌≤◌, Bool, true, false, List, [], ◌∷◌, length, reverse, Option, Some, None}
-use Rattle.vb_ends.specs.declared.role.Sort.{Sort}
+use Rattle.vb_ends.specs.declared.role.{Sort.Sort, Role.Role, Mark.Mark}
 use Rattle.vb_ends.specs.declared.role.Sort.TheVariants as sort
-use Rattle.vb_ends.specs.declared.role.Role.{Role}
 use Rattle.vb_ends.specs.declared.role.Role.TheVariants as role
-use Rattle.vb_ends.specs.declared.role.Mark.{Mark}
 
 -- BLOCKS (Visual Basic Language Specification 11.0, 7, 9 and 10)
 

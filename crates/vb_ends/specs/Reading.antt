@@ -1,10 +1,7 @@
 -- What is kept of rows that were read. The rows are listed from the last.
 use Rattle.std.specs.Prelude.{◌≡◌, List, [], ◌∷◌, Option, None}
-use Rattle.vb_syntax.specs.declared.item.Item.{Item}
-use Rattle.vb_syntax.specs.declared.item.Row.{Row}
-use Rattle.vb_ends.specs.declared.reading.Reader.{Reader}
-use Rattle.vb_ends.specs.Roles.{in_interface, is_fresh, marks_of}
-use Rattle.vb_ends.specs.Stack.{Tracks}
+use Rattle.vb_syntax.specs.declared.item.{Item.Item, Row.Row}
+use Rattle.vb_ends.specs.{declared.reading.Reader.Reader, Roles.{in_interface, is_fresh, marks_of}, Stack.Tracks}
 
 -- the item of the first of the rows that stand behind, here in their order
 abbrev pub next_item : List Row → Option Item

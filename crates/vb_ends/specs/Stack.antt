@@ -1,13 +1,7 @@
 -- The same with a stack.
 use Rattle.std.specs.Prelude.{◌≡◌, ◌⊎◌, ℕ, ◌<◌, nat_lt, if◌then◌else◌, List, [], ◌∷◌, reverse, Option, Some, None}
-use Rattle.vb_ends.specs.declared.role.Sort.{Sort}
-use Rattle.vb_ends.specs.declared.role.Role.{Role}
+use Rattle.vb_ends.specs.{declared.{role.{Sort.Sort, Role.Role, Mark.Mark}, stack.Open.Open, blocks.Blocks.Blocks}, Enders.{Block, Closes, IsOpen, IsStray, AreOpen, IsLeast, is_statement}, Counts.{same_sort, holds}}
 use Rattle.vb_ends.specs.declared.role.Role.TheVariants as role
-use Rattle.vb_ends.specs.declared.role.Mark.{Mark}
-use Rattle.vb_ends.specs.declared.stack.Open.{Open}
-use Rattle.vb_ends.specs.declared.blocks.Blocks.{Blocks}
-use Rattle.vb_ends.specs.Enders.{Block, Closes, IsOpen, IsStray, AreOpen, IsLeast, is_statement}
-use Rattle.vb_ends.specs.Counts.{same_sort, holds}
 
 -- the least line so far, and one more
 unfoldable pub lesser_of : Option ℕ → ℕ → Option ℕ

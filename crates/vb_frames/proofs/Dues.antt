@@ -3,21 +3,11 @@ use Rattle.std.proofs.Common.{◌≡◌, ℕ, ◌+◌, ◌≤◌, ◌<◌, Bool,
 use Rattle.std.specs.Prelude.{nat_le, slice_set, slice_index_or, if◌then◌else◌, Result, Ok, Err}
 use Rattle.std.specs.Fmt.{signed_decimal}
 use Rattle.std.proofs.lemmas.Bool.Decides.{nat_tests}
-use Rattle.vb_text.specs.Units.{most_units, IsText}
-use Rattle.vb_text.specs.declared.TextErr.{TextErr}
-use Rattle.vb_text.specs.declared.TextErr.TheVariants.{TooLong, Memory}
+use Rattle.vb_text.specs.{Units.{most_units, IsText}, declared.TextErr.{TextErr, TheVariants.{TooLong, Memory}}}
 use Rattle.vb_threads.specs.Machine.{Silent}
-use Rattle.vb_num.specs.declared.kinds.Kind.{Kind}
-use Rattle.vb_num.specs.declared.kinds.Kind.TheVariants.{Integer}
+use Rattle.vb_num.specs.declared.kinds.Kind.{Kind, TheVariants.Integer}
 use Rattle.vb_value.specs.Datum.{Datum, Number, Truth, Letters}
-use Rattle.vb_code.specs.declared.instr.Arithmetic.{Arithmetic}
-use Rattle.vb_code.specs.declared.instr.Mark.{Mark}
-use Rattle.vb_code.specs.declared.instr.Instr.{Instr}
-use Rattle.vb_code.specs.declared.instr.Instr.TheVariants.{Push, PushText, LoadLocal, StoreLocal, Arith, Compare, Concat, Intrinsic, Jump, JumpIf, Write as WriteInstr, Return}
-use Rattle.vb_code.specs.declared.instr.Silent.TheVariants.{TextOf}
-use Rattle.vb_code.specs.declared.local.Local.{Local}
-use Rattle.vb_code.specs.Code.{Code, text_at}
-use Rattle.vb_code.specs.Machine.{CodeThread, At, Returned, act, constant, compared, joined}
+use Rattle.vb_code.specs.{declared.{instr.{Arithmetic.Arithmetic, Mark.Mark, Instr.{Instr, TheVariants.{Push, PushText, LoadLocal, StoreLocal, Arith, Compare, Concat, Intrinsic, Jump, JumpIf, Write as WriteInstr, Return}}, Silent.TheVariants.TextOf}, local.Local.Local}, Code.{Code, text_at}, Machine.{CodeThread, At, Returned, act, constant, compared, joined}}
 use Rattle.vb_frames.specs.Turn.{Needs, StandsAt, JoinsTo}
 
 -- an instruction that neither writes nor may throw does a silent step

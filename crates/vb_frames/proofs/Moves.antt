@@ -3,28 +3,10 @@ use Rattle.std.proofs.Common.{◌≡◌, ℕ, suc, ◌+◌, ◌<◌, Bool, true,
 use Rattle.std.specs.Prelude.{slice_get, if◌then◌else◌, bytes_eq, nat_eq, Err}
 use Rattle.std.proofs.lemmas.Bool.Decides.{nat_tests}
 use Rattle.vb_threads.specs.Machine.{Threw, Silent, Asks}
-use Rattle.vb_num.specs.declared.kinds.Kind.{Kind}
-use Rattle.vb_num.specs.declared.num.Thrown.{Thrown}
-use Rattle.vb_num.specs.declared.num.Thrown.TheVariants.{Overflow, DivideByZero, Format}
-use Rattle.vb_num.specs.Num.{Answers}
-use Rattle.vb_value.specs.Datum.{Datum, Number, Letters, units_of}
-use Rattle.vb_value.specs.Store.{New, Write, Reply}
-use Rattle.vb_code.specs.declared.code.Class.{Class}
-use Rattle.vb_code.specs.declared.instr.Arithmetic.{Arithmetic}
-use Rattle.vb_code.specs.declared.instr.Mark.{Mark}
-use Rattle.vb_code.specs.declared.instr.Instr.{Instr}
-use Rattle.vb_code.specs.declared.instr.Instr.TheVariants.{Arith, Concat, Write as WriteInstr}
-use Rattle.vb_code.specs.declared.instr.Silent.{Silent as SilentCall}
-use Rattle.vb_code.specs.declared.instr.Silent.TheVariants.{TextOf}
-use Rattle.vb_code.specs.declared.local.Position.{Position}
-use Rattle.vb_code.specs.declared.local.Position.TheVariants.{At as AtPlace, Writing, Throwing, Returned as HasReturned, Ended as HasEnded, Thrown as HasThrown}
-use Rattle.vb_code.specs.declared.local.Local.{Local}
-use Rattle.vb_code.specs.Code.{Code, text_at, class_from, class_named, class_name, class_units, name_in, inherits, throwable, overflow, out_of_memory}
-use Rattle.vb_code.specs.Machine.{CodeThread, At, Gone, act, throws, throws_class, or_throws, arith_of, joined, commits}
-use Rattle.vb_code.specs.Local.{thread_at}
-use Rattle.vb_frames.specs.declared.turn.Did.{Did}
-use Rattle.vb_frames.specs.Frames.{AwaitsAt, asked_at, given_at}
-use Rattle.vb_frames.specs.Turn.{place_of, Needs, Stays, Stops, Obeys, Throws, HasTexts, HasText}
+use Rattle.vb_num.specs.{declared.{kinds.Kind.Kind, num.Thrown.{Thrown, TheVariants.{Overflow, DivideByZero, Format}}}, Num.Answers}
+use Rattle.vb_value.specs.{Datum.{Datum, Number, Letters, units_of}, Store.{New, Write, Reply}}
+use Rattle.vb_code.specs.{declared.{code.Class.Class, instr.{Arithmetic.Arithmetic, Mark.Mark, Instr.{Instr, TheVariants.{Arith, Concat, Write as WriteInstr}}, Silent.{Silent as SilentCall, TheVariants.TextOf}}, local.{Position.{Position, TheVariants.{At as AtPlace, Writing, Throwing, Returned as HasReturned, Ended as HasEnded, Thrown as HasThrown}}, Local.Local}}, Code.{Code, text_at, class_from, class_named, class_name, class_units, name_in, inherits, throwable, overflow, out_of_memory}, Machine.{CodeThread, At, Gone, act, throws, throws_class, or_throws, arith_of, joined, commits}, Local.thread_at}
+use Rattle.vb_frames.specs.{declared.turn.Did.Did, Frames.{AwaitsAt, asked_at, given_at}, Turn.{place_of, Needs, Stays, Stops, Obeys, Throws, HasTexts, HasText}}
 
 -- the class of a name has that name
 equal_of : (xs ys : List ℕ) → bytes_eq xs ys ≡ true → xs ≡ ys

@@ -6,19 +6,9 @@ use Rattle.std.proofs.lemmas.List.{map-set, length-map}
 use Rattle.std.proofs.lemmas.Option.{slice_get_within, slice_get-get_or, slice_get-map}
 use Rattle.std.specs.Fmt.{signed_decimal}
 use Rattle.vb_threads.specs.Machine.{Silent, Asks, Rests}
-use Rattle.vb_num.specs.declared.kinds.Kind.{Kind}
-use Rattle.vb_num.specs.declared.kinds.Kind.TheVariants.{Integer}
-use Rattle.vb_value.specs.declared.value.Shape.{Shape}
-use Rattle.vb_value.specs.declared.value.Shape.TheVariants.{Num, Bool as TruthShape, Text}
-use Rattle.vb_value.specs.Datum.{Datum, Number, Truth, Letters, Object, shape_of, units_of}
-use Rattle.vb_value.specs.Store.{Ask, Reply}
-use Rattle.vb_code.specs.declared.instr.Constant.TheVariants.{Integer as IntegerConstant}
-use Rattle.vb_code.specs.declared.instr.Instr.{Instr}
-use Rattle.vb_code.specs.declared.instr.Instr.TheVariants.{Push, PushText, LoadLocal, StoreLocal, Arith, Compare, Concat, Intrinsic, Jump, JumpIf, Write as WriteInstr, Return}
-use Rattle.vb_code.specs.declared.instr.Silent.TheVariants.{TextOf}
-use Rattle.vb_code.specs.Code.{Code, locals_of, body_of, begins_of, begins_at, throwable, overflow, out_of_memory, text_at}
-use Rattle.vb_code.specs.Machine.{CodeThread, CodeNext, At, Returned, Gone, Lost, code_next, act, fetched, throws_class, or_throws, arith_of, joined, compared}
-use Rattle.vb_code.specs.Shapes.{Shapes, Turns, AllHave, leads_to, IsShaping, IsState}
+use Rattle.vb_num.specs.declared.kinds.Kind.{Kind, TheVariants.Integer}
+use Rattle.vb_value.specs.{declared.value.Shape.{Shape, TheVariants.{Num, Bool as TruthShape, Text}}, Datum.{Datum, Number, Truth, Letters, Object, shape_of, units_of}, Store.{Ask, Reply}}
+use Rattle.vb_code.specs.{declared.instr.{Constant.TheVariants.Integer as IntegerConstant, Instr.{Instr, TheVariants.{Push, PushText, LoadLocal, StoreLocal, Arith, Compare, Concat, Intrinsic, Jump, JumpIf, Write as WriteInstr, Return}}, Silent.TheVariants.TextOf}, Code.{Code, locals_of, body_of, begins_of, begins_at, throwable, overflow, out_of_memory, text_at}, Machine.{CodeThread, CodeNext, At, Returned, Gone, Lost, code_next, act, fetched, throws_class, or_throws, arith_of, joined, compared}, Shapes.{Shapes, Turns, AllHave, leads_to, IsShaping, IsState}}
 use Rattle.vb_frames.specs.Turn.{Needs}
 
 some_of : {A : Type 0} (o : Option A) → IsSome o → (x : A) × (o ≡ Some x)

@@ -6,21 +6,9 @@ use Rattle.std.proofs.lemmas.Option.{slice_get-get_or, slice_get-map}
 use Rattle.std.specs.Option.{option_map}
 use Rattle.vb_threads.specs.Machine.{Next, Silent, Asks, state_of, begins_of as begun_by, takes, quiet, begun, taken}
 use Rattle.vb_value.specs.Store.{Reply, Done}
-use Rattle.vb_code.specs.declared.instr.Instr.{Instr}
-use Rattle.vb_code.specs.declared.instr.Instr.TheVariants.{Push}
-use Rattle.vb_code.specs.declared.instr.Constant.TheVariants.{Integer}
-use Rattle.vb_code.specs.declared.instr.Step.{Step}
-use Rattle.vb_code.specs.declared.local.Position.TheVariants.{Returned as HasReturned, Ended as HasEnded}
-use Rattle.vb_code.specs.declared.local.Local.{Local}
-use Rattle.vb_code.specs.Code.{Code, body_of, begins_of, begins_at}
-use Rattle.vb_code.specs.Machine.{CodeThread, At, code_next, act, fetched}
-use Rattle.vb_code.specs.Shapes.{IsState}
-use Rattle.vb_code.specs.Local.{thread_at, thread_of}
-use Rattle.vb_frames.specs.declared.turn.Did.TheVariants.{Went}
-use Rattle.vb_frames.specs.Frames.{AwaitsAt, AsksNow, RunsOn, HasStep, asked, asked_at, given, given_at}
-use Rattle.vb_frames.specs.Turn.{place_of, Needs, Stays, Stops, Obeys, TurnsTo}
-use Rattle.vb_frames.proofs.States.{IsGoing, within_body, needs_at, state_next, state_given}
-use Rattle.vb_frames.proofs.Moves.{thread_here}
+use Rattle.vb_code.specs.{declared.{instr.{Instr.{Instr, TheVariants.Push}, Constant.TheVariants.Integer, Step.Step}, local.{Position.TheVariants.{Returned as HasReturned, Ended as HasEnded}, Local.Local}}, Code.{Code, body_of, begins_of, begins_at}, Machine.{CodeThread, At, code_next, act, fetched}, Shapes.IsState, Local.{thread_at, thread_of}}
+use Rattle.vb_frames.specs.{declared.turn.Did.TheVariants.Went, Frames.{AwaitsAt, AsksNow, RunsOn, HasStep, asked, asked_at, given, given_at}, Turn.{place_of, Needs, Stays, Stops, Obeys, TurnsTo}}
+use Rattle.vb_frames.proofs.{States.{IsGoing, within_body, needs_at, state_next, state_given}, Moves.thread_here}
 
 -- what stands for a step that is not there
 abbrev pub no_step : Step

@@ -1,17 +1,9 @@
 -- What a thread asks where it stands, where the answer leads, and why a silent run has paused.
 use Rattle.std.specs.Prelude.{◌≡◌, ℕ, ◌+◌, ◌^◌, ◌<◌, Bool, List, [], ◌∷◌, drop, Option}
 use Rattle.vb_threads.specs.Machine.{Ended, Threw, Silent, Asks, quiet, taken, begun}
-use Rattle.vb_value.specs.Datum.{Datum, Number, Truth, Letters, Object, units_of}
-use Rattle.vb_value.specs.Store.{Ask, New, Write, End, Reply}
-use Rattle.vb_code.specs.declared.local.Position.{Position}
-use Rattle.vb_code.specs.declared.local.Position.TheVariants.{At as AtPlace, Writing, Throwing, Returned as HasReturned, Ended as HasEnded, Thrown}
-use Rattle.vb_code.specs.declared.local.Local.{Local}
-use Rattle.vb_code.specs.Code.{Code, class_name, class_units}
-use Rattle.vb_code.specs.Machine.{CodeThread, At, Gone, Lost, code_next}
-use Rattle.vb_code.specs.Shapes.{IsState}
-use Rattle.vb_code.specs.Local.{thread_of, ask_of}
-use Rattle.vb_frames.specs.declared.run.Pause.{Pause}
-use Rattle.vb_frames.specs.declared.run.Pause.TheVariants.{Ask as AskPause, Spent, Uncaught, Memory}
+use Rattle.vb_value.specs.{Datum.{Datum, Number, Truth, Letters, Object, units_of}, Store.{Ask, New, Write, End, Reply}}
+use Rattle.vb_code.specs.{declared.local.{Position.{Position, TheVariants.{At as AtPlace, Writing, Throwing, Returned as HasReturned, Ended as HasEnded, Thrown}}, Local.Local}, Code.{Code, class_name, class_units}, Machine.{CodeThread, At, Gone, Lost, code_next}, Shapes.IsState, Local.{thread_of, ask_of}}
+use Rattle.vb_frames.specs.declared.run.Pause.{Pause, TheVariants.{Ask as AskPause, Spent, Uncaught, Memory}}
 
 -- the text on top of the operands
 abbrev pub top_text : List Datum → List ℕ

@@ -1,25 +1,11 @@
 -- What one instruction needs and does.
 use Rattle.std.specs.Prelude.{◌≡◌, ℕ, ◌+◌, ◌<◌, ◌^◌, ℤ, Bool, List, ◌∷◌, length, Option, Some, None, Result, Ok, Err}
-use Rattle.vb_text.specs.declared.TextErr.{TextErr}
-use Rattle.vb_text.specs.declared.TextErr.TheVariants.{TooLong, Memory}
+use Rattle.vb_text.specs.declared.TextErr.{TextErr, TheVariants.{TooLong, Memory}}
 use Rattle.vb_num.specs.declared.kinds.Kind.{Kind}
 use Rattle.vb_threads.specs.Machine.{Silent, Asks}
-use Rattle.vb_value.specs.Datum.{Datum, Number, Truth, Letters}
-use Rattle.vb_value.specs.Store.{Reply}
-use Rattle.vb_code.specs.declared.instr.Instr.{Instr}
-use Rattle.vb_code.specs.declared.instr.Instr.TheVariants.{Push, PushText, LoadLocal, StoreLocal, Arith, Compare, Concat, Intrinsic, Jump, JumpIf, Write, Return}
-use Rattle.vb_code.specs.declared.instr.Silent.TheVariants.{TextOf}
-use Rattle.vb_code.specs.declared.local.Position.{Position}
-use Rattle.vb_code.specs.declared.local.Position.TheVariants.{At as AtPlace, Writing, Throwing, Returned, Ended, Thrown}
-use Rattle.vb_code.specs.declared.local.Local.{Local}
-use Rattle.vb_code.specs.Code.{Code, throwable, overflow, out_of_memory}
-use Rattle.vb_code.specs.Machine.{CodeThread, code_next, act, joined}
-use Rattle.vb_code.specs.Local.{thread_of}
-use Rattle.vb_frames.specs.declared.turn.Did.{Did}
-use Rattle.vb_frames.specs.declared.turn.Did.TheVariants.{Went, Asked, Rested, NoMemory}
-use Rattle.vb_frames.specs.declared.due.Due.{Due}
-use Rattle.vb_frames.specs.declared.due.Due.TheVariants.{Step, Ask, Rest}
-use Rattle.vb_frames.specs.Frames.{Awaits, AsksNow, HasStep, asked, given}
+use Rattle.vb_value.specs.{Datum.{Datum, Number, Truth, Letters}, Store.Reply}
+use Rattle.vb_code.specs.{declared.{instr.{Instr.{Instr, TheVariants.{Push, PushText, LoadLocal, StoreLocal, Arith, Compare, Concat, Intrinsic, Jump, JumpIf, Write, Return}}, Silent.TheVariants.TextOf}, local.{Position.{Position, TheVariants.{At as AtPlace, Writing, Throwing, Returned, Ended, Thrown}}, Local.Local}}, Code.{Code, throwable, overflow, out_of_memory}, Machine.{CodeThread, code_next, act, joined}, Local.thread_of}
+use Rattle.vb_frames.specs.{declared.{turn.Did.{Did, TheVariants.{Went, Asked, Rested, NoMemory}}, due.Due.{Due, TheVariants.{Step, Ask, Rest}}}, Frames.{Awaits, AsksNow, HasStep, asked, given}}
 
 -- the place at which a thread is
 abbrev pub place_of : Position → Option ℕ

@@ -3,8 +3,7 @@ use Rattle.std.proofs.Common.{◌≡◌, ℕ, ◌≤◌, List, ◌++◌, take, d
 use Rattle.std.specs.Prelude.{Result, Ok, Err}
 use Rattle.std.specs.Io.KnownBytes.{Appends}
 use Rattle.std.proofs.KnownBytes.{Appends-trans}
-use Rattle.vb_io.specs.Causes.{Rose}
-use Rattle.vb_io.specs.Outside.{AppendsPart, Writes}
+use Rattle.vb_io.specs.{Causes.Rose, Outside.{AppendsPart, Writes}}
 
 pub put_more : (a b c : Option (List ℕ)) (text front rest : List ℕ) (n : ℕ) → text ≡ front ++ rest → Appends a b front → Appends b c (take n rest) → (x : List ℕ) × (text ≡ x ++ drop n rest) × Appends a c x
 put_more a b c text front rest n e p q =

@@ -2,9 +2,7 @@
 use Rattle.std.specs.Prelude.{◌≡◌, ℕ, ◌<◌, ◌≤◌, List, [], ◌∷◌, ◌++◌, length, Option, Some, None, if◌then◌else◌, OnOk, OnErr, IsErrOf, Result, Vec, String, string_bytes, map, bytes_eq}
 use Rattle.std.specs.Borrow.{Bor}
 use Rattle.std.specs.declared.alloc.Global.{Global}
-use Rattle.vb_io.specs.declared.LoadErr.{LoadErr}
-use Rattle.vb_io.specs.declared.LoadErr.TheVariants.{Missing, TooLong, Failed}
-use Rattle.vb_io.specs.Causes.{Rose}
+use Rattle.vb_io.specs.{declared.LoadErr.{LoadErr, TheVariants.{Missing, TooLong, Failed}}, Causes.Rose}
 
 -- names with the bytes of their files
 abbrev pub Files : Type 0

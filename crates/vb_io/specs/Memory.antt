@@ -1,9 +1,6 @@
 -- What the objects in memory tell.
 use Rattle.std.specs.Prelude.{ℕ, ◌+◌, ◌-◌, ◌^◌, min, List, Option, Some, drop}
-use Rattle.vb_io.specs.Files.{Files, named_files}
-use Rattle.vb_io.specs.declared.memory.MemSource.{MemSource}
-use Rattle.vb_io.specs.declared.memory.MemSink.{MemSink}
-use Rattle.vb_io.specs.declared.memory.MemFolder.{MemFolder}
+use Rattle.vb_io.specs.{Files.{Files, named_files}, declared.memory.{MemSource.MemSource, MemSink.MemSink, MemFolder.MemFolder}}
 
 abbrev pub source_left : MemSource → Option (List ℕ)
 source_left s = Some (drop s.at s.bytes.items)

@@ -6,21 +6,12 @@ use Rattle.std.specs.Prelude.{codes, bytes_eq}
 use Rattle.std.specs.List.{list_all}
 use Rattle.unicode.specs.GeneralCategory.{general_category}
 use Rattle.ucd_category.proofs.Computing.{ucd_category}
-use Rattle.vb_syntax.specs.Texts.{keyword_text, symbol_text}
-use Rattle.vb_syntax.specs.declared.keyword.Keyword.{Keyword}
+use Rattle.vb_syntax.specs.{Texts.{keyword_text, symbol_text}, declared.{keyword.Keyword.Keyword, symbol.Symbol.Symbol}}
 use Rattle.vb_syntax.specs.declared.keyword.Keyword.TheVariants as word
-use Rattle.vb_syntax.specs.declared.symbol.Symbol.{Symbol}
 use Rattle.vb_syntax.specs.declared.symbol.Symbol.TheVariants as sign
-use Rattle.vb_lexer.specs.declared.piece.Piece.{Piece}
+use Rattle.vb_lexer.specs.{declared.{piece.{Piece.Piece, Base.{Base, TheVariants.{Decimal, Hexadecimal, Octal}}}, characters.Class.Class}, Characters.{Character, is_line_end_code, is_decimal_digit, is_space_category, is_letter_category, is_connector_category, class_of, class_of_code, class_of_category}, Tables.{keywords_a, keywords_b, keywords_c, keywords_d, keywords_e, keywords_f, keywords_g, keywords_h, keywords_i, keywords_l, keywords_m, keywords_n, keywords_o, keywords_p, keywords_r, keywords_s, keywords_t, keywords_u, keywords_v, keywords_w, keywords_x, keywords}, Tokens.{char_at, begins_name, is_digit, is_rem, keyword_in, lowered}, Longest.{AreWord, IsIdentifier, IsReserved, Spells, base_mark}}
 use Rattle.vb_lexer.specs.declared.piece.Piece.TheVariants as piece
-use Rattle.vb_lexer.specs.declared.piece.Base.{Base}
-use Rattle.vb_lexer.specs.declared.piece.Base.TheVariants.{Decimal, Hexadecimal, Octal}
-use Rattle.vb_lexer.specs.declared.characters.Class.{Class}
 use Rattle.vb_lexer.specs.declared.characters.Class.TheVariants as class
-use Rattle.vb_lexer.specs.Characters.{Character, is_line_end_code, is_decimal_digit, is_space_category, is_letter_category, is_connector_category, class_of, class_of_code, class_of_category}
-use Rattle.vb_lexer.specs.Tables.{keywords_a, keywords_b, keywords_c, keywords_d, keywords_e, keywords_f, keywords_g, keywords_h, keywords_i, keywords_l, keywords_m, keywords_n, keywords_o, keywords_p, keywords_r, keywords_s, keywords_t, keywords_u, keywords_v, keywords_w, keywords_x, keywords}
-use Rattle.vb_lexer.specs.Tokens.{char_at, begins_name, is_digit, is_rem, keyword_in, lowered}
-use Rattle.vb_lexer.specs.Longest.{AreWord, IsIdentifier, IsReserved, Spells, base_mark}
 use Rattle.vb_lexer.proofs.Spelling.{word_first, no_letter_is}
 
 abbrev pub is_word_class : Class → Bool

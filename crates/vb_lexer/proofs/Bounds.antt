@@ -2,18 +2,11 @@
 use Rattle.std.proofs.Common.{◌≡◌, ℕ, suc, ◌+◌, ◌<◌, ◌≤◌, Bool, true, false, ◌&&◌, List, [], ◌∷◌, length, drop, Option, None, Some, refl, ap, arith, if◌then◌else◌, length-drop}
 use Rattle.std.proofs.lemmas.Bool.{and_parts}
 use Rattle.std.specs.Prelude.{codes}
-use Rattle.vb_lexer.specs.declared.piece.Piece.{Piece}
+use Rattle.vb_lexer.specs.{declared.{piece.{Piece.Piece, Before.Before, Base.TheVariants.Decimal}, characters.Class.Class}, Characters.{Character, is_char, is_line_end, is_in_line, is_name_part, is_remark, is_space, class_of, run_len}, Tokens.{char_at, found, fault, name_len, content_len, quoted_at}, Pieces.{line_end_len, ends_line, space_of, is_rest, behind_space, is_word_at, region_start, region_named, region_start_of, region_end_of, region_at, piece_of, piece_at}}
 use Rattle.vb_lexer.specs.declared.piece.Piece.TheVariants as piece
 use Rattle.vb_lexer.specs.declared.piece.Fault.TheVariants as broken
-use Rattle.vb_lexer.specs.declared.piece.Before.{Before}
-use Rattle.vb_lexer.specs.declared.piece.Base.TheVariants.{Decimal}
-use Rattle.vb_lexer.specs.declared.characters.Class.{Class}
 use Rattle.vb_lexer.specs.declared.characters.Class.TheVariants as class
-use Rattle.vb_lexer.specs.Characters.{Character, is_char, is_line_end, is_in_line, is_name_part, is_remark, is_space, class_of, run_len}
-use Rattle.vb_lexer.specs.Tokens.{char_at, found, fault, name_len, content_len, quoted_at}
-use Rattle.vb_lexer.specs.Pieces.{line_end_len, ends_line, space_of, is_rest, behind_space, is_word_at, region_start, region_named, region_start_of, region_end_of, region_at, piece_of, piece_at}
-use Rattle.vb_lexer.proofs.Runs.{at_within}
-use Rattle.vb_lexer.proofs.TokenBounds.{Within, within_if, run_le, run_some, run_within, fault_within, in_line_of, remark_of, line_end_of, name_part_of, word_le, word_within, connected_within, bracketed_within, number_within, symbol_within, ampersand_within, content_within, quoted_by}
+use Rattle.vb_lexer.proofs.{Runs.at_within, TokenBounds.{Within, within_if, run_le, run_some, run_within, fault_within, in_line_of, remark_of, line_end_of, name_part_of, word_le, word_within, connected_within, bracketed_within, number_within, symbol_within, ampersand_within, content_within, quoted_by}}
 
 -- GAPS
 

@@ -2,23 +2,11 @@
 use Rattle.std.proofs.Common.{◌≡◌, ℕ, ◌+◌, Bool, true, false, ◌&&◌, ◌==◌, not, nat_lt, List, length, take, drop, ◌⊎◌, Option, None, Some, refl, if◌then◌else◌, ap, ⊎_elim}
 use Rattle.std.specs.Prelude.{codes}
 use Rattle.vb_text.specs.Units.{most_units}
-use Rattle.vb_syntax.specs.declared.keyword.Keyword.{Keyword}
-use Rattle.vb_syntax.specs.declared.symbol.Symbol.{Symbol}
-use Rattle.vb_syntax.specs.declared.tokens.IntegerType.{IntegerType}
-use Rattle.vb_syntax.specs.declared.tokens.IntegerLiteral.{IntegerLiteral}
-use Rattle.vb_lexer.specs.declared.piece.Piece.{Piece}
+use Rattle.vb_syntax.specs.declared.{keyword.Keyword.Keyword, symbol.Symbol.Symbol, tokens.{IntegerType.IntegerType, IntegerLiteral.IntegerLiteral}}
+use Rattle.vb_lexer.specs.{declared.{piece.{Piece.Piece, Found.Found, Before.Before, Base.{Base, TheVariants.{Decimal, Hexadecimal, Octal}}}, characters.Class.Class}, Characters.{Character, is_char, class_of, run_len, is_space, is_readable}, Tables.{keywords, symbols}, Tokens.{char_at, found, fault, longest_name, name_len, lowered, is_rem, keyword_in, keyword_or_name, word_of, connected_of, begins_name, bracketed_of, digits_len, base_number, value_from, literal_of, suffixes, suffix_in, suffix_type, suffix_len, starts, integer_or_fault, number_of, number_at, symbol_in, symbol_or_fault, symbol_at, ampersand_at, content_len, char_literal, text_literal, quoted_of, quoted_or_fault, units_of}, Pieces.{ends_line, space_of, region_at, piece_of, piece_at}}
 use Rattle.vb_lexer.specs.declared.piece.Piece.TheVariants as piece
 use Rattle.vb_lexer.specs.declared.piece.Fault.TheVariants as broken
-use Rattle.vb_lexer.specs.declared.piece.Found.{Found}
-use Rattle.vb_lexer.specs.declared.piece.Before.{Before}
-use Rattle.vb_lexer.specs.declared.piece.Base.{Base}
-use Rattle.vb_lexer.specs.declared.piece.Base.TheVariants.{Decimal, Hexadecimal, Octal}
-use Rattle.vb_lexer.specs.declared.characters.Class.{Class}
 use Rattle.vb_lexer.specs.declared.characters.Class.TheVariants as class
-use Rattle.vb_lexer.specs.Characters.{Character, is_char, class_of, run_len, is_space, is_readable}
-use Rattle.vb_lexer.specs.Tables.{keywords, symbols}
-use Rattle.vb_lexer.specs.Tokens.{char_at, found, fault, longest_name, name_len, lowered, is_rem, keyword_in, keyword_or_name, word_of, connected_of, begins_name, bracketed_of, digits_len, base_number, value_from, literal_of, suffixes, suffix_in, suffix_type, suffix_len, starts, integer_or_fault, number_of, number_at, symbol_in, symbol_or_fault, symbol_at, ampersand_at, content_len, char_literal, text_literal, quoted_of, quoted_or_fault, units_of}
-use Rattle.vb_lexer.specs.Pieces.{ends_line, space_of, region_at, piece_of, piece_at}
 
 abbrev is_region : Piece → Bool
 is_region piece.RegionStart = true

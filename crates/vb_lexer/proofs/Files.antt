@@ -3,16 +3,7 @@ use Rattle.std.proofs.Common.{ap, ◌≡◌, ℕ, Bool, true, List, [], ◌++◌
 use Rattle.std.specs.Prelude.{IfOk}
 use Rattle.vb_diag.specs.declared.refusal.Refusal.{Refusal}
 use Rattle.vb_syntax.specs.declared.tokens.Line.{Line}
-use Rattle.vb_lexer.specs.declared.error.LexErr.{LexErr}
-use Rattle.vb_lexer.specs.declared.error.LexErr.TheVariants.{Refused}
-use Rattle.vb_lexer.specs.declared.piece.Before.{Before}
-use Rattle.vb_lexer.specs.declared.lines.Progress.{Progress}
-use Rattle.vb_lexer.specs.Characters.{Character, IsText}
-use Rattle.vb_lexer.specs.Pieces.{Part, file_front}
-use Rattle.vb_lexer.specs.Lines.{Item, items_of, marks_of, items_from, marks_from, grouped, AreLines, IsBroken, with_parts, LexedFrom, Breaks}
-use Rattle.vb_lexer.specs.Reader.{Reads}
-use Rattle.vb_lexer.specs.Regions.{Tracks}
-use Rattle.vb_lexer.specs.Progress.{FileBreaks, Finishes, ReadTo}
+use Rattle.vb_lexer.specs.{declared.{error.LexErr.{LexErr, TheVariants.Refused}, piece.Before.Before, lines.Progress.Progress}, Characters.{Character, IsText}, Pieces.{Part, file_front}, Lines.{Item, items_of, marks_of, items_from, marks_from, grouped, AreLines, IsBroken, with_parts, LexedFrom, Breaks}, Reader.Reads, Regions.Tracks, Progress.{FileBreaks, Finishes, ReadTo}}
 use Rattle.vb_lexer.proofs.Unique.{extends_self}
 
 -- nothing of the text was read

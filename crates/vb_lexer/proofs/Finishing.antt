@@ -1,12 +1,7 @@
 -- The end of a file.
 use Rattle.std.proofs.Common.{◌≡◌, ℕ, ◌≤◌, Bool, true, false, List, Option, None, Some, refl, inl, inr, arith, if◌then◌else◌}
 use Rattle.std.proofs.lemmas.Bool.{cases_lt}
-use Rattle.vb_lexer.specs.declared.piece.Fault.TheVariants.{Region}
-use Rattle.vb_lexer.specs.declared.reader.Broken.{Broken}
-use Rattle.vb_lexer.specs.Lines.{Item, grouped, SomeLineBreaks, RegionBreaks, IsNotAfter, fault_rule}
-use Rattle.vb_lexer.specs.Reader.{IsLeast, told_first}
-use Rattle.vb_lexer.specs.Regions.{IsFirstBreak}
-use Rattle.vb_lexer.specs.Progress.{FileBreaks, least_with}
+use Rattle.vb_lexer.specs.{declared.{piece.Fault.TheVariants.Region, reader.Broken.Broken}, Lines.{Item, grouped, SomeLineBreaks, RegionBreaks, IsNotAfter, fault_rule}, Reader.{IsLeast, told_first}, Regions.IsFirstBreak, Progress.{FileBreaks, least_with}}
 use Rattle.vb_lexer.proofs.LeastLines.{least_same, told_is, told_not, after_trans}
 
 -- a region's line isn't before the first one

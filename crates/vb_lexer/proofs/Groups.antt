@@ -3,10 +3,7 @@ use Rattle.std.proofs.Common.{◌≡◌, ℕ, ◌+◌, true, false, List, [], �
 use Rattle.vb_syntax.specs.declared.tokens.Token.{Token}
 use Rattle.vb_syntax.specs.declared.tokens.Token.TheVariants as token
 use Rattle.vb_lexer.specs.declared.piece.Piece.TheVariants as piece
-use Rattle.vb_lexer.specs.declared.piece.Fault.{Fault}
-use Rattle.vb_lexer.specs.Pieces.{Part}
-use Rattle.vb_lexer.specs.Lines.{Item, is_fault, joined, onto_first, grouped, IsToken, AreTokens, HasFault, token_count, fault_rule}
-use Rattle.vb_lexer.specs.Reader.{Chain, last_of}
+use Rattle.vb_lexer.specs.{declared.piece.Fault.Fault, Pieces.Part, Lines.{Item, is_fault, joined, onto_first, grouped, IsToken, AreTokens, HasFault, token_count, fault_rule}, Reader.{Chain, last_of}}
 
 -- a line and what isn't joined to it
 pub split_off : (a : Item) (hs : List Item) (b : Item) (more : List Item) → Chain a hs → joined (last_of a hs) b ≡ false → grouped ((a ∷ hs) ++ (b ∷ more)) ≡ (a ∷ hs) ∷ grouped (b ∷ more)

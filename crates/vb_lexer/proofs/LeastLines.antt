@@ -2,10 +2,7 @@
 use Rattle.std.proofs.Common.{◌≡◌, ℕ, ◌<◌, ◌≤◌, Bool, true, false, ◌&&◌, ◌||◌, ◌==◌, nat_lt, nat_le, List, [], ◌∷◌, ◌++◌, Option, None, Some, refl, sym, ◌∙◌, ◌⊎◌, inl, inr, arith, if◌then◌else◌}
 use Rattle.std.proofs.lemmas.Bool.{cases_lt}
 use Rattle.std.proofs.lemmas.Grind.{common_steps}
-use Rattle.vb_lexer.specs.declared.piece.Fault.{Fault}
-use Rattle.vb_lexer.specs.declared.reader.Broken.{Broken}
-use Rattle.vb_lexer.specs.Lines.{Item, LineBreaks, SomeLineBreaks, IsNotAfter, line_number, fault_rule}
-use Rattle.vb_lexer.specs.Reader.{IsLeast, told_first, lesser_of}
+use Rattle.vb_lexer.specs.{declared.{piece.Fault.Fault, reader.Broken.Broken}, Lines.{Item, LineBreaks, SomeLineBreaks, IsNotAfter, line_number, fault_rule}, Reader.{IsLeast, told_first, lesser_of}}
 
 pub some_front : (gs : List (List Item)) (g : List Item) (l r : ℕ) → SomeLineBreaks gs l r → SomeLineBreaks (gs ++ (g ∷ [])) l r
 some_front [] g l r h = absurd h

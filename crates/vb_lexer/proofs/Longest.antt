@@ -7,33 +7,13 @@ use Rattle.std.specs.Prelude.{codes}
 use Rattle.std.specs.List.{list_all}
 use Rattle.std.specs.Char.{to_ascii_lowercase}
 use Rattle.vb_text.specs.Units.{most_units}
-use Rattle.vb_syntax.specs.Texts.{symbol_text}
-use Rattle.vb_syntax.specs.declared.keyword.Keyword.{Keyword}
-use Rattle.vb_syntax.specs.declared.symbol.Symbol.{Symbol}
+use Rattle.vb_syntax.specs.{Texts.symbol_text, declared.{keyword.Keyword.Keyword, symbol.Symbol.Symbol, tokens.{IntegerType.IntegerType, IntegerLiteral.IntegerLiteral}}}
 use Rattle.vb_syntax.specs.declared.symbol.Symbol.TheVariants as sign
-use Rattle.vb_syntax.specs.declared.tokens.IntegerType.{IntegerType}
-use Rattle.vb_syntax.specs.declared.tokens.IntegerLiteral.{IntegerLiteral}
-use Rattle.vb_lexer.specs.declared.piece.Piece.{Piece}
+use Rattle.vb_lexer.specs.{declared.{piece.{Piece.Piece, Found.Found, Before.Before, Base.{Base, TheVariants.{Decimal, Hexadecimal, Octal}}}, characters.Class.Class}, Characters.{Character, is_char, is_name_part, is_readable, run_len, class_of, is_remark, is_space}, Tables.{keywords, symbols}, Tokens.{char_at, found, fault, longest_name, name_len, lowered, is_rem, keyword_in, keyword_or_name, word_of, connected_of, begins_name, bracketed_of, is_digit, digits_len, base_number, value_from, literal_of, suffixes, suffix_in, suffix_type, suffix_len, starts, integer_or_fault, number_of, number_at, symbol_in, symbol_or_fault, symbol_at, ampersand_at, content_len, char_literal, text_literal, quoted_or_fault, quoted_at, units_of}, Pieces.{Part, Falls, ends_line, is_rest, behind_space, is_word_at, space_of, region_start, region_named, region_start_of, region_end_of, region_at, piece_of, piece_at}, Lines.is_token, Longest.{AreWord, IsIdentifier, IsReserved, IsInteger, IsQuoted, IsSuffix, Spells, IsLongest, base_mark}}
 use Rattle.vb_lexer.specs.declared.piece.Piece.TheVariants as piece
 use Rattle.vb_lexer.specs.declared.piece.Fault.TheVariants as broken
-use Rattle.vb_lexer.specs.declared.piece.Found.{Found}
-use Rattle.vb_lexer.specs.declared.piece.Before.{Before}
-use Rattle.vb_lexer.specs.declared.piece.Base.{Base}
-use Rattle.vb_lexer.specs.declared.piece.Base.TheVariants.{Decimal, Hexadecimal, Octal}
-use Rattle.vb_lexer.specs.declared.characters.Class.{Class}
 use Rattle.vb_lexer.specs.declared.characters.Class.TheVariants as class
-use Rattle.vb_lexer.specs.Characters.{Character, is_char, is_name_part, is_readable, run_len, class_of, is_remark, is_space}
-use Rattle.vb_lexer.specs.Tables.{keywords, symbols}
-use Rattle.vb_lexer.specs.Tokens.{char_at, found, fault, longest_name, name_len, lowered, is_rem, keyword_in, keyword_or_name, word_of, connected_of, begins_name, bracketed_of, is_digit, digits_len, base_number, value_from, literal_of, suffixes, suffix_in, suffix_type, suffix_len, starts, integer_or_fault, number_of, number_at, symbol_in, symbol_or_fault, symbol_at, ampersand_at, content_len, char_literal, text_literal, quoted_or_fault, quoted_at, units_of}
-use Rattle.vb_lexer.specs.Pieces.{Part, Falls, ends_line, is_rest, behind_space, is_word_at, space_of, region_start, region_named, region_start_of, region_end_of, region_at, piece_of, piece_at}
-use Rattle.vb_lexer.specs.Lines.{is_token}
-use Rattle.vb_lexer.specs.Longest.{AreWord, IsIdentifier, IsReserved, IsInteger, IsQuoted, IsSuffix, Spells, IsLongest, base_mark}
-use Rattle.vb_lexer.proofs.Runs.{name_readable}
-use Rattle.vb_lexer.proofs.SymbolTables.{symbol_stands, symbol_longest}
-use Rattle.vb_lexer.proofs.TokenBounds.{run_le, run_some, name_part_of}
-use Rattle.vb_lexer.proofs.Bounds.{piece_bounds}
-use Rattle.vb_lexer.proofs.Spelling.{run_covers, run_passes, word_at_front, word_starts, word_len, integer_covers, suffix_at_front, char_code, content_covers, IsContent, content_is}
-use Rattle.vb_lexer.proofs.Beginnings.{first_class, sort_begins, begins_sort, reserved_first, not_reserved, keyword_found, base_class, number_begins, number_text, quote_code, bracket_code}
+use Rattle.vb_lexer.proofs.{Runs.name_readable, SymbolTables.{symbol_stands, symbol_longest}, TokenBounds.{run_le, run_some, name_part_of}, Bounds.piece_bounds, Spelling.{run_covers, run_passes, word_at_front, word_starts, word_len, integer_covers, suffix_at_front, char_code, content_covers, IsContent, content_is}, Beginnings.{first_class, sort_begins, begins_sort, reserved_first, not_reserved, keyword_found, base_class, number_begins, number_text, quote_code, bracket_code}}
 
 -- no token of more than n characters stands at the front
 abbrev NoLonger : Bool → List Character → ℕ → Type 0

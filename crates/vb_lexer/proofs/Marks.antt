@@ -1,8 +1,6 @@
 -- Lines that begin and end regions.
 use Rattle.std.proofs.Common.{◌≡◌, ◌⊎◌, inl, inr, ℕ, zero, suc, ◌+◌, ◌-◌, ◌^◌, min, ◌<◌, ◌≤◌, Bool, true, false, List, [], ◌∷◌, ◌++◌, Option, None, Some, refl, ap, sym, ◌∙◌, subst, arith, append_assoc, if◌then◌else◌}
-use Rattle.vb_lexer.specs.Lines.{begun, ended, IsUnclosed, IsUnopened, RegionBreaks}
-use Rattle.vb_lexer.specs.declared.regions.Regions.{Regions}
-use Rattle.vb_lexer.specs.Regions.{Tracks, AreBefore, IsFirstBreak, IsClosed, IsOpen, IsBalanced, IsState}
+use Rattle.vb_lexer.specs.{Lines.{begun, ended, IsUnclosed, IsUnopened, RegionBreaks}, declared.regions.Regions.Regions, Regions.{Tracks, AreBefore, IsFirstBreak, IsClosed, IsOpen, IsBalanced, IsState}}
 
 count_yes : (t : Bool) (x y z : ℕ) → x ≡ y + z → (if t then x + 1 else x) ≡ (if t then y + 1 else y) + z
 count_yes true x y z e = omega arith

@@ -4,8 +4,7 @@ use Rattle.std.specs.Prelude.{Result, Ok, Err, is_ok, OnOk}
 use Rattle.std.specs.Char.Escape.{encode_utf16}
 use Rattle.std.proofs.lemmas.Bool.{eqb-true, ltb-true, ltb-false}
 use Rattle.std.proofs.lemmas.List.{drop-drop, drop_all}
-use Rattle.vb_lexer.specs.Characters.{Character, is_char, is_line_end, is_line_end_code}
-use Rattle.vb_lexer.specs.Tokens.{char_at, plus_some, content_len, units_of, starts, char_literal, text_literal, quoted_of, quoted_or_fault, quoted_at}
+use Rattle.vb_lexer.specs.{Characters.{Character, is_char, is_line_end, is_line_end_code}, Tokens.{char_at, plus_some, content_len, units_of, starts, char_literal, text_literal, quoted_of, quoted_or_fault, quoted_at}}
 
 -- THE TEXT AT A PLACE
 

@@ -1,17 +1,10 @@
 -- A reader keeps what it has read.
 use Rattle.std.proofs.Common.{◌≡◌, ℕ, ◌<◌, ◌≤◌, Bool, true, false, ◌&&◌, ◌||◌, nat_lt, List, [], ◌∷◌, ◌++◌, length, Option, None, Some, refl, ap, sym, ◌∙◌, subst, append_assoc, append-nil, ◌⊎◌, inl, inr, arith, if◌then◌else◌, not}
 use Rattle.std.proofs.lemmas.Grind.{common_steps}
-use Rattle.vb_syntax.specs.declared.tokens.Token.{Token}
-use Rattle.vb_syntax.specs.declared.tokens.Line.{Line}
+use Rattle.vb_syntax.specs.declared.tokens.{Token.Token, Line.Line}
 use Rattle.vb_lexer.specs.declared.piece.Piece.TheVariants as piece
-use Rattle.vb_lexer.specs.declared.piece.Fault.{Fault}
-use Rattle.vb_lexer.specs.declared.piece.Fault.TheVariants.{LongLine}
-use Rattle.vb_lexer.specs.declared.reader.Reader.{Reader}
-use Rattle.vb_lexer.specs.declared.reader.Broken.{Broken}
-use Rattle.vb_lexer.specs.Lines.{Item, is_fault, goes_on, closes, joined, grouped, IsToken, AreTokens, AreLines, HasFault, SomeLineBreaks, line_number, fault_rule, most_tokens}
-use Rattle.vb_lexer.specs.Reader.{Chain, last_of, IsHand, IsLeast, Reads, told_first, lesser_of, closed_line, closed_least, parts_lines}
-use Rattle.vb_lexer.proofs.Groups.{split_off, one_line, chain_more, last_more, faulty, no_fault, tokens_more, no_tokens, tokens_counted, count_fault, tokens_sound, fault_last, fault_only}
-use Rattle.vb_lexer.proofs.LeastLines.{some_front, some_last, some_split, least_same, least_more}
+use Rattle.vb_lexer.specs.{declared.{piece.Fault.{Fault, TheVariants.LongLine}, reader.{Reader.Reader, Broken.Broken}}, Lines.{Item, is_fault, goes_on, closes, joined, grouped, IsToken, AreTokens, AreLines, HasFault, SomeLineBreaks, line_number, fault_rule, most_tokens}, Reader.{Chain, last_of, IsHand, IsLeast, Reads, told_first, lesser_of, closed_line, closed_least, parts_lines}}
+use Rattle.vb_lexer.proofs.{Groups.{split_off, one_line, chain_more, last_more, faulty, no_fault, tokens_more, no_tokens, tokens_counted, count_fault, tokens_sound, fault_last, fault_only}, LeastLines.{some_front, some_last, some_split, least_same, least_more}}
 
 lines_more : (table : List (List ℕ)) (file : ℕ) (gs : List (List Item)) (ls : List Line) (g : List Item) (l : Line) → AreLines table file gs ls → (l.file ≡ file) × (l.number ≡ line_number g) × AreTokens table g l.tokens → AreLines table file (gs ++ (g ∷ [])) (ls ++ (l ∷ []))
 lines_more table file [] [] g l are here = (here, tt)

@@ -1,7 +1,6 @@
 -- Runs of characters.
 use Rattle.std.proofs.Common.{◌≡◌, ℕ, zero, suc, ◌<◌, ◌≤◌, Bool, true, false, List, [], ◌∷◌, length, take, get_or, None, Some, refl, ap, arith}
-use Rattle.vb_lexer.specs.Characters.{Character, run_len, is_char, is_name_part, is_readable}
-use Rattle.vb_lexer.specs.Tokens.{char_at}
+use Rattle.vb_lexer.specs.{Characters.{Character, run_len, is_char, is_name_part, is_readable}, Tokens.char_at}
 
 -- n characters pass, and then the text ends, or one doesn't
 pub run_is : (passes : Character → Bool) (text : List Character) (n : ℕ) → n ≤ length text → ((k : ℕ) → k < n → passes (get_or text k None) ≡ true) → (n < length text → passes (get_or text n None) ≡ false) → n ≡ run_len passes text

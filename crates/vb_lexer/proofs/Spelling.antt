@@ -6,12 +6,8 @@ use Rattle.std.proofs.lemmas.Grind.{common_steps}
 use Rattle.std.specs.List.{list_all}
 use Rattle.std.specs.Char.{to_ascii_lowercase}
 use Rattle.vb_syntax.specs.declared.tokens.IntegerType.{IntegerType}
-use Rattle.vb_lexer.specs.declared.piece.Base.{Base}
-use Rattle.vb_lexer.specs.declared.piece.Base.TheVariants.{Decimal, Hexadecimal, Octal}
-use Rattle.vb_lexer.specs.Characters.{Character, is_char, is_line_end, run_len}
-use Rattle.vb_lexer.specs.Tokens.{lowered, is_digit, is_digit_code, starts, suffixes, suffix_in, suffix_len, suffix_type, content_len, plus_some}
+use Rattle.vb_lexer.specs.{declared.piece.Base.{Base, TheVariants.{Decimal, Hexadecimal, Octal}}, Characters.{Character, is_char, is_line_end, run_len}, Tokens.{lowered, is_digit, is_digit_code, starts, suffixes, suffix_in, suffix_len, suffix_type, content_len, plus_some}, Longest.{AreWord, IsAmong, IsSuffix, AreBetweenQuotes}}
 use Rattle.vb_lexer.proofs.Quotes.{content_other, content_doubled}
-use Rattle.vb_lexer.specs.Longest.{AreWord, IsAmong, IsSuffix, AreBetweenQuotes}
 
 -- RUNS
 

@@ -2,19 +2,9 @@
 use Rattle.std.proofs.Common.{◌≡◌, ℕ, ◌+◌, ◌<◌, ◌≤◌, Bool, true, false, List, [], ◌∷◌, ◌++◌, Result, Ok, Err, refl, ap, sym, ◌∙◌, subst, append_assoc, append-nil, length, take, drop, length-drop, ◌⊎◌, arith, if◌then◌else◌}
 use Rattle.std.specs.Prelude.{OnOk}
 use Rattle.vb_text.specs.Names.{Extends}
-use Rattle.vb_lexer.specs.declared.piece.Piece.{Piece}
+use Rattle.vb_lexer.specs.{declared.{piece.{Piece.Piece, Before.Before}, lines.Progress.Progress}, Characters.Character, Pieces.{Part, Falls, piece_at, behind, file_front}, Lines.{Item, item, is_token, items_from, marks_from, mark_of, lines_in, with_piece, with_parts}, Reader.{Reads, part, items_here}, Regions.{Tracks, AreBefore}, Progress.ReadTo}
 use Rattle.vb_lexer.specs.declared.piece.Piece.TheVariants as piece
-use Rattle.vb_lexer.specs.declared.piece.Before.{Before}
-use Rattle.vb_lexer.specs.declared.lines.Progress.{Progress}
-use Rattle.vb_lexer.specs.Characters.{Character}
-use Rattle.vb_lexer.specs.Pieces.{Part, Falls, piece_at, behind, file_front}
-use Rattle.vb_lexer.specs.Lines.{Item, item, is_token, items_from, marks_from, mark_of, lines_in, with_piece, with_parts}
-use Rattle.vb_lexer.specs.Reader.{Reads, part, items_here}
-use Rattle.vb_lexer.specs.Regions.{Tracks, AreBefore}
-use Rattle.vb_lexer.specs.Progress.{ReadTo}
-use Rattle.vb_lexer.proofs.Bounds.{piece_bounds}
-use Rattle.vb_lexer.proofs.Contexts.{region_front}
-use Rattle.vb_lexer.proofs.Unique.{extends_trans}
+use Rattle.vb_lexer.proofs.{Bounds.piece_bounds, Contexts.region_front, Unique.extends_trans}
 
 pub on_ok : {A E X Y : Type 0} (r : Result A E) → (X → Y) → OnOk r X → OnOk r Y
 on_ok (Ok a) f x = f x

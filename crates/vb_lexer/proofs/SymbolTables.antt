@@ -3,12 +3,9 @@ use Rattle.std.proofs.Common.{◌≡◌, ℕ, ◌≤◌, Bool, true, false, List
 use Rattle.std.proofs.lemmas.Bool.{and_parts, or_cases, leb-true, both_ways}
 use Rattle.std.proofs.lemmas.Slice.Eq.{bytes_eq-Decides}
 use Rattle.std.specs.Prelude.{◌&&◌, ◌||◌, nat_le, if◌then◌else◌, length, Option, Some, bytes_eq}
-use Rattle.vb_syntax.specs.Texts.{symbol_text}
-use Rattle.vb_syntax.specs.declared.symbol.Symbol.{Symbol}
+use Rattle.vb_syntax.specs.{Texts.symbol_text, declared.symbol.Symbol.Symbol}
 use Rattle.vb_syntax.specs.declared.symbol.Symbol.TheVariants as sign
-use Rattle.vb_lexer.specs.Characters.{Character}
-use Rattle.vb_lexer.specs.Tables.{symbols}
-use Rattle.vb_lexer.specs.Tokens.{starts, symbol_in}
+use Rattle.vb_lexer.specs.{Characters.Character, Tables.symbols, Tokens.{starts, symbol_in}}
 
 -- the symbol that is found is the first or one behind it
 found_stands : (b : Bool) (x s : Symbol) (rest : Option Symbol) (text : List Character) → starts (symbol_text x) text ≡ b → (rest ≡ Some s → starts (symbol_text s) text ≡ true) → (if b then Some x else rest) ≡ Some s → starts (symbol_text s) text ≡ true

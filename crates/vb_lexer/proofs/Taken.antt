@@ -5,30 +5,12 @@ use Rattle.std.proofs.lemmas.Slice.Eq.{bytes_eq-Decides}
 use Rattle.std.specs.Prelude.{codes, bytes_eq}
 use Rattle.ucd_category.proofs.Computing.{ucd_category}
 use Rattle.vb_text.specs.Units.{most_units}
-use Rattle.vb_syntax.specs.Texts.{symbol_text}
-use Rattle.vb_syntax.specs.declared.keyword.Keyword.{Keyword}
-use Rattle.vb_syntax.specs.declared.symbol.Symbol.{Symbol}
-use Rattle.vb_syntax.specs.declared.tokens.IntegerType.{IntegerType}
-use Rattle.vb_syntax.specs.declared.tokens.IntegerLiteral.{IntegerLiteral}
-use Rattle.vb_lexer.specs.declared.piece.Piece.{Piece}
+use Rattle.vb_syntax.specs.{Texts.symbol_text, declared.{keyword.Keyword.Keyword, symbol.Symbol.Symbol, tokens.{IntegerType.IntegerType, IntegerLiteral.IntegerLiteral}}}
+use Rattle.vb_lexer.specs.{declared.{piece.{Piece.Piece, Found.Found, Before.Before, Base.{Base, TheVariants.{Decimal, Hexadecimal, Octal}}}, characters.Class.Class}, Characters.{Character, is_char, is_name_part, is_readable, run_len, class_of}, Tables.{keywords, symbols}, Tokens.{char_at, found, fault, longest_name, name_len, lowered, is_rem, keyword_in, keyword_or_name, word_of, connected_of, begins_name, bracketed_of, digits_len, base_number, value_from, literal_of, suffixes, suffix_in, suffix_type, suffix_len, starts, integer_or_fault, number_of, number_at, symbol_in, symbol_or_fault, symbol_at, ampersand_at, content_len, char_literal, text_literal, quoted_or_fault, units_of}, Pieces.{Part, Falls, piece_of}, Lines.is_token, Longest.{AreWord, IsIdentifier, Spells, stands_instead}}
 use Rattle.vb_lexer.specs.declared.piece.Piece.TheVariants as piece
 use Rattle.vb_lexer.specs.declared.piece.Fault.TheVariants as broken
-use Rattle.vb_lexer.specs.declared.piece.Found.{Found}
-use Rattle.vb_lexer.specs.declared.piece.Before.{Before}
-use Rattle.vb_lexer.specs.declared.piece.Base.{Base}
-use Rattle.vb_lexer.specs.declared.piece.Base.TheVariants.{Decimal, Hexadecimal, Octal}
-use Rattle.vb_lexer.specs.declared.characters.Class.{Class}
 use Rattle.vb_lexer.specs.declared.characters.Class.TheVariants as class
-use Rattle.vb_lexer.specs.Characters.{Character, is_char, is_name_part, is_readable, run_len, class_of}
-use Rattle.vb_lexer.specs.Tables.{keywords, symbols}
-use Rattle.vb_lexer.specs.Tokens.{char_at, found, fault, longest_name, name_len, lowered, is_rem, keyword_in, keyword_or_name, word_of, connected_of, begins_name, bracketed_of, digits_len, base_number, value_from, literal_of, suffixes, suffix_in, suffix_type, suffix_len, starts, integer_or_fault, number_of, number_at, symbol_in, symbol_or_fault, symbol_at, ampersand_at, content_len, char_literal, text_literal, quoted_or_fault, units_of}
-use Rattle.vb_lexer.specs.Pieces.{Part, Falls, piece_of}
-use Rattle.vb_lexer.specs.Lines.{is_token}
-use Rattle.vb_lexer.specs.Longest.{AreWord, IsIdentifier, Spells, stands_instead}
-use Rattle.vb_lexer.proofs.SymbolTables.{has_text, each_has_text}
-use Rattle.vb_lexer.proofs.Spelling.{run_ends, word_starts}
-use Rattle.vb_lexer.proofs.Beginnings.{first_class, is_word_class, is_bracket_class, is_number_class, is_quote_class, is_symbol_class, sort_begins, begins_sort}
-use Rattle.vb_lexer.proofs.Longest.{char_behind, word_covers, number_class, number_starts, is_neither}
+use Rattle.vb_lexer.proofs.{SymbolTables.{has_text, each_has_text}, Spelling.{run_ends, word_starts}, Beginnings.{first_class, is_word_class, is_bracket_class, is_number_class, is_quote_class, is_symbol_class, sort_begins, begins_sort}, Longest.{char_behind, word_covers, number_class, number_starts, is_neither}}
 
 abbrev Taken : Found → Type 0
 Taken f = (is_token f.piece || stands_instead f.piece) ≡ true

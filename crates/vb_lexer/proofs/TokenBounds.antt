@@ -9,26 +9,13 @@ use Rattle.unicode.specs.GeneralCategory.{general_category}
 use Rattle.ucd_category.specs.declared.GeneralCategory.{GeneralCategory}
 use Rattle.ucd_category.specs.declared.GeneralCategory.TheVariants as category
 use Rattle.vb_text.specs.Units.{most_units}
-use Rattle.vb_syntax.specs.Texts.{symbol_text}
-use Rattle.vb_syntax.specs.declared.symbol.Symbol.{Symbol}
+use Rattle.vb_syntax.specs.{Texts.symbol_text, declared.{symbol.Symbol.Symbol, tokens.{IntegerType.IntegerType, IntegerLiteral.IntegerLiteral}}}
 use Rattle.vb_syntax.specs.declared.symbol.Symbol.TheVariants as sign
-use Rattle.vb_syntax.specs.declared.tokens.IntegerType.{IntegerType}
-use Rattle.vb_syntax.specs.declared.tokens.IntegerLiteral.{IntegerLiteral}
-use Rattle.vb_lexer.specs.declared.piece.Piece.{Piece}
+use Rattle.vb_lexer.specs.{declared.{piece.{Piece.Piece, Fault.Fault, Found.Found, Base.{Base, TheVariants.{Hexadecimal, Octal}}}, characters.Class.Class}, Characters.{Character, is_char, is_line_end, is_line_end_code, is_in_line, is_name_part, is_name_category, is_letter_category, is_space_category, is_connector_category, is_remark, is_decimal_digit, class_of, class_of_code, class_of_category, run_len, readable, is_readable}, Tables.symbols, Tokens.{char_at, found, fault, longest_name, name_len, lowered, is_rem, word_of, connected_of, bracketed_of, begins_name, is_digit, digits_len, base_number, value_from, literal_of, suffixes, suffix_in, suffix_len, suffix_type, starts, integer_or_fault, number_of, number_at, symbol_in, symbol_or_fault, symbol_at, ampersand_at, content_len, plus_some, char_literal, text_literal, quoted_of, quoted_or_fault, units_of}, Pieces.is_word_at}
 use Rattle.vb_lexer.specs.declared.piece.Piece.TheVariants as piece
-use Rattle.vb_lexer.specs.declared.piece.Fault.{Fault}
 use Rattle.vb_lexer.specs.declared.piece.Fault.TheVariants as broken
-use Rattle.vb_lexer.specs.declared.piece.Found.{Found}
-use Rattle.vb_lexer.specs.declared.piece.Base.{Base}
-use Rattle.vb_lexer.specs.declared.piece.Base.TheVariants.{Hexadecimal, Octal}
-use Rattle.vb_lexer.specs.declared.characters.Class.{Class}
 use Rattle.vb_lexer.specs.declared.characters.Class.TheVariants as class
-use Rattle.vb_lexer.specs.Characters.{Character, is_char, is_line_end, is_line_end_code, is_in_line, is_name_part, is_name_category, is_letter_category, is_space_category, is_connector_category, is_remark, is_decimal_digit, class_of, class_of_code, class_of_category, run_len, readable, is_readable}
-use Rattle.vb_lexer.specs.Tables.{symbols}
-use Rattle.vb_lexer.specs.Tokens.{char_at, found, fault, longest_name, name_len, lowered, is_rem, word_of, connected_of, bracketed_of, begins_name, is_digit, digits_len, base_number, value_from, literal_of, suffixes, suffix_in, suffix_len, suffix_type, starts, integer_or_fault, number_of, number_at, symbol_in, symbol_or_fault, symbol_at, ampersand_at, content_len, plus_some, char_literal, text_literal, quoted_of, quoted_or_fault, units_of}
-use Rattle.vb_lexer.specs.Pieces.{is_word_at}
-use Rattle.vb_lexer.proofs.Runs.{at_within}
-use Rattle.vb_lexer.proofs.SymbolTables.{symbol_stands}
+use Rattle.vb_lexer.proofs.{Runs.at_within, SymbolTables.symbol_stands}
 
 -- a character at least, and none past the end
 abbrev pub Within : Found → List Character → Type 0

@@ -1,18 +1,12 @@
 -- A file is one text, which falls into pieces in one way and has one list of logical lines.
 use Rattle.std.proofs.Common.{◌≡◌, ℕ, List, [], ◌∷◌, ◌++◌, length, drop, refl, sym, ap, ap₂, ◌∙◌, subst, inl, inr, arith, take-append-drop, append_assoc, append-nil}
 use Rattle.bstr.specs.Utf8.{decoded}
-use Rattle.vb_text.specs.Names.{folding, IsNameOf, AreApart, Extends}
-use Rattle.vb_text.specs.declared.names.Name.{Name}
+use Rattle.vb_text.specs.{Names.{folding, IsNameOf, AreApart, Extends}, declared.names.Name.Name}
 use Rattle.vb_text.proofs.Growth.{kept_name}
-use Rattle.vb_syntax.specs.declared.tokens.Token.{Token}
+use Rattle.vb_syntax.specs.declared.tokens.{Token.Token, Line.Line}
 use Rattle.vb_syntax.specs.declared.tokens.Token.TheVariants as token
-use Rattle.vb_syntax.specs.declared.tokens.Line.{Line}
-use Rattle.vb_lexer.specs.declared.piece.Piece.{Piece}
+use Rattle.vb_lexer.specs.{declared.piece.{Piece.Piece, Before.Before}, Characters.{Character, Decodes, IsText, without_mark}, Pieces.{Part, Falls, piece_at, behind, spelled, file_front}, Lines.{Item, IsToken, AreTokens, IsLine, AreLines, IsNotAfter, IsBroken, Lexed, Breaks, groups_of, with_parts, LexedFrom}}
 use Rattle.vb_lexer.specs.declared.piece.Piece.TheVariants as piece
-use Rattle.vb_lexer.specs.declared.piece.Before.{Before}
-use Rattle.vb_lexer.specs.Characters.{Character, Decodes, IsText, without_mark}
-use Rattle.vb_lexer.specs.Pieces.{Part, Falls, piece_at, behind, spelled, file_front}
-use Rattle.vb_lexer.specs.Lines.{Item, IsToken, AreTokens, IsLine, AreLines, IsNotAfter, IsBroken, Lexed, Breaks, groups_of, with_parts, LexedFrom}
 
 -- TEXTS
 

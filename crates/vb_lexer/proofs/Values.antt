@@ -7,14 +7,9 @@ use Rattle.std.proofs.Math.Nat.{le-mul_of_pos_right}
 use Rattle.std.proofs.lemmas.Bool.{eq-eqb, ne_eqb}
 use Rattle.std.proofs.lemmas.List.{drop-drop}
 use Rattle.std.proofs.lemmas.Grind.{common_steps}
-use Rattle.vb_syntax.specs.declared.tokens.IntegerType.{IntegerType}
-use Rattle.vb_syntax.specs.declared.tokens.IntegerType.TheVariants.{Short, UShort, Integer, UInteger, Long, ULong}
-use Rattle.vb_lexer.specs.declared.piece.Base.{Base}
-use Rattle.vb_lexer.specs.declared.piece.Base.TheVariants.{Decimal, Hexadecimal, Octal}
-use Rattle.vb_syntax.specs.declared.tokens.IntegerLiteral.{IntegerLiteral}
+use Rattle.vb_syntax.specs.declared.tokens.{IntegerType.{IntegerType, TheVariants.{Short, UShort, Integer, UInteger, Long, ULong}}, IntegerLiteral.IntegerLiteral}
+use Rattle.vb_lexer.specs.{declared.piece.Base.{Base, TheVariants.{Decimal, Hexadecimal, Octal}}, Characters.{Character, run_len}, Tokens.{is_digit, suffixes, suffix_in, suffix_type, suffix_len, integer_or_fault, number_of, number_at, fault, char_at, starts, base_number, digit_value, value_from, literal_of, decimal_literal, bits_literal}}
 use Rattle.vb_lexer.specs.declared.piece.Fault.TheVariants as broken
-use Rattle.vb_lexer.specs.Characters.{Character, run_len}
-use Rattle.vb_lexer.specs.Tokens.{is_digit, suffixes, suffix_in, suffix_type, suffix_len, integer_or_fault, number_of, number_at, fault, char_at, starts, base_number, digit_value, value_from, literal_of, decimal_literal, bits_literal}
 
 pub value_step : (b n : ℕ) (ds : List Character) (i : ℕ) → i < length ds → value_from b n (drop i ds) ≡ value_from b (n * b + digit_value (get_or ds i None)) (drop (i + 1) ds)
 unfolding value_from

@@ -3,11 +3,8 @@ use Rattle.std.proofs.Common.{◌≡◌, ◌≢◌, ℕ, suc, ◌<◌, Bool, tru
 use Rattle.std.specs.Prelude.{◌&&◌, ◌||◌, ◌==◌, if◌then◌else◌, Some, None, codes, bytes_eq, slice_index}
 use Rattle.std.proofs.lemmas.Bool.{and_left, and_right, and_parts, or_cases, eqb-true, ne_eqb}
 use Rattle.std.specs.Char.{to_ascii_lowercase}
-use Rattle.vb_syntax.specs.Texts.{keyword_text}
-use Rattle.vb_syntax.specs.declared.keyword.Keyword.{Keyword}
-use Rattle.vb_lexer.specs.Characters.{Character, is_readable}
-use Rattle.vb_lexer.specs.Tables.{keywords_a, keywords_b, keywords_c, keywords_d, keywords_e, keywords_f, keywords_g, keywords_h, keywords_i, keywords_l, keywords_m, keywords_n, keywords_o, keywords_p, keywords_r, keywords_s, keywords_t, keywords_u, keywords_v, keywords_w, keywords_x, keywords}
-use Rattle.vb_lexer.specs.Tokens.{keyword_in, lowered}
+use Rattle.vb_syntax.specs.{Texts.keyword_text, declared.keyword.Keyword.Keyword}
+use Rattle.vb_lexer.specs.{Characters.{Character, is_readable}, Tables.{keywords_a, keywords_b, keywords_c, keywords_d, keywords_e, keywords_f, keywords_g, keywords_h, keywords_i, keywords_l, keywords_m, keywords_n, keywords_o, keywords_p, keywords_r, keywords_s, keywords_t, keywords_u, keywords_v, keywords_w, keywords_x, keywords}, Tokens.{keyword_in, lowered}}
 
 -- the word and the text are the same just where they are from the i-th character on
 pub record SameFrom (word : List Character) (text : List ℕ) (i : ℕ) : Type 0 where

@@ -3,16 +3,11 @@ use Rattle.std.specs.Prelude.{◌≡◌, ◌⊎◌, ℕ, ◌+◌, ◌-◌, ◌<�
 use Rattle.vb_text.specs.Names.{IsNameOf, with_name}
 use Rattle.vb_syntax.specs.declared.keyword.Keyword.TheVariants as word
 use Rattle.vb_syntax.specs.declared.symbol.Symbol.TheVariants as sign
-use Rattle.vb_syntax.specs.declared.tokens.Token.{Token}
+use Rattle.vb_syntax.specs.declared.tokens.{Token.Token, Line.Line}
 use Rattle.vb_syntax.specs.declared.tokens.Token.TheVariants as token
-use Rattle.vb_syntax.specs.declared.tokens.Line.{Line}
-use Rattle.vb_lexer.specs.declared.piece.Piece.{Piece}
+use Rattle.vb_lexer.specs.{declared.piece.{Piece.Piece, Fault.Fault}, Characters.{Character, IsText, readable}, Tokens.units_of, Pieces.{Part, Falls, file_front}}
 use Rattle.vb_lexer.specs.declared.piece.Piece.TheVariants as piece
-use Rattle.vb_lexer.specs.declared.piece.Fault.{Fault}
 use Rattle.vb_lexer.specs.declared.piece.Fault.TheVariants as broken
-use Rattle.vb_lexer.specs.Characters.{Character, IsText, readable}
-use Rattle.vb_lexer.specs.Tokens.{units_of}
-use Rattle.vb_lexer.specs.Pieces.{Part, Falls, file_front}
 
 -- PHYSICAL LINES (Visual Basic Language Specification 11.0, 2.1)
 

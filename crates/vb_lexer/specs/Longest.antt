@@ -2,18 +2,10 @@
 use Rattle.std.specs.Prelude.{◌≡◌, ◌⊎◌, ℕ, ◌≤◌, Bool, true, false, List, [], ◌∷◌, ◌++◌, length, Option, Some, None, codes}
 use Rattle.std.specs.List.{list_all}
 use Rattle.vb_text.specs.Units.{most_units}
-use Rattle.vb_syntax.specs.Texts.{keyword_text, symbol_text}
-use Rattle.vb_syntax.specs.declared.keyword.Keyword.{Keyword}
-use Rattle.vb_syntax.specs.declared.tokens.IntegerType.{IntegerType}
-use Rattle.vb_syntax.specs.declared.tokens.IntegerLiteral.{IntegerLiteral}
-use Rattle.vb_lexer.specs.declared.piece.Piece.{Piece}
+use Rattle.vb_syntax.specs.{Texts.{keyword_text, symbol_text}, declared.{keyword.Keyword.Keyword, tokens.{IntegerType.IntegerType, IntegerLiteral.IntegerLiteral}}}
+use Rattle.vb_lexer.specs.{declared.piece.{Piece.Piece, Base.{Base, TheVariants.{Decimal, Hexadecimal, Octal}}}, Characters.{Character, is_char, is_line_end, is_name_part, class_of, is_readable}, Tokens.{char_at, longest_name, begins_name, lowered, is_digit, base_number, value_from, literal_of, suffixes, units_of}, Pieces.Part}
 use Rattle.vb_lexer.specs.declared.piece.Piece.TheVariants as piece
 use Rattle.vb_lexer.specs.declared.piece.Fault.TheVariants as broken
-use Rattle.vb_lexer.specs.declared.piece.Base.{Base}
-use Rattle.vb_lexer.specs.declared.piece.Base.TheVariants.{Decimal, Hexadecimal, Octal}
-use Rattle.vb_lexer.specs.Characters.{Character, is_char, is_line_end, is_name_part, class_of, is_readable}
-use Rattle.vb_lexer.specs.Tokens.{char_at, longest_name, begins_name, lowered, is_digit, base_number, value_from, literal_of, suffixes, units_of}
-use Rattle.vb_lexer.specs.Pieces.{Part}
 
 -- the characters are the word, in any ASCII case
 abbrev pub AreWord : List ℕ → List Character → Type 0

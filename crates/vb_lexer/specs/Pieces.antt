@@ -2,16 +2,10 @@
 use Rattle.std.specs.Prelude.{◌≡◌, ℕ, ◌+◌, ◌<◌, Bool, true, false, ◌&&◌, ◌||◌, if◌then◌else◌, List, [], ◌∷◌, ◌++◌, length, take, drop, Option, Some, None, codes, bytes_eq}
 use Rattle.vb_syntax.specs.declared.symbol.Symbol.{Symbol}
 use Rattle.vb_syntax.specs.declared.symbol.Symbol.TheVariants as sign
-use Rattle.vb_lexer.specs.declared.piece.Piece.{Piece}
+use Rattle.vb_lexer.specs.{declared.{piece.{Piece.Piece, Found.Found, Before.Before, Base.TheVariants.Decimal}, characters.Class.Class}, Characters.{Character, is_char, is_line_end, is_space, is_remark, class_of, run_len}, Tokens.{char_at, found, fault, name_len, lowered, is_rem, word_at, connected_at, bracketed_at, number_at, symbol_at, ampersand_at, quoted_at, content_len}}
 use Rattle.vb_lexer.specs.declared.piece.Piece.TheVariants as piece
-use Rattle.vb_lexer.specs.declared.piece.Found.{Found}
 use Rattle.vb_lexer.specs.declared.piece.Fault.TheVariants as broken
-use Rattle.vb_lexer.specs.declared.piece.Before.{Before}
-use Rattle.vb_lexer.specs.declared.piece.Base.TheVariants.{Decimal}
-use Rattle.vb_lexer.specs.declared.characters.Class.{Class}
 use Rattle.vb_lexer.specs.declared.characters.Class.TheVariants as class
-use Rattle.vb_lexer.specs.Characters.{Character, is_char, is_line_end, is_space, is_remark, class_of, run_len}
-use Rattle.vb_lexer.specs.Tokens.{char_at, found, fault, name_len, lowered, is_rem, word_at, connected_at, bracketed_at, number_at, symbol_at, ampersand_at, quoted_at, content_len}
 
 -- GAPS (Visual Basic Language Specification 11.0, 2.1)
 

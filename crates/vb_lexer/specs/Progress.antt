@@ -3,17 +3,7 @@ use Rattle.std.specs.Prelude.{◌≡◌, ◌⊎◌, ℕ, ◌+◌, ◌≤◌, Boo
 use Rattle.vb_diag.specs.declared.refusal.Refusal.{Refusal}
 use Rattle.vb_text.specs.Names.{Extends}
 use Rattle.vb_syntax.specs.declared.tokens.Line.{Line}
-use Rattle.vb_lexer.specs.declared.error.LexErr.{LexErr}
-use Rattle.vb_lexer.specs.declared.error.LexErr.TheVariants.{Refused, Memory}
-use Rattle.vb_lexer.specs.declared.piece.Before.{Before}
-use Rattle.vb_lexer.specs.declared.piece.Fault.TheVariants.{Region}
-use Rattle.vb_lexer.specs.declared.reader.Broken.{Broken}
-use Rattle.vb_lexer.specs.declared.lines.Progress.{Progress}
-use Rattle.vb_lexer.specs.Characters.{Character}
-use Rattle.vb_lexer.specs.Pieces.{Part, Falls, file_front}
-use Rattle.vb_lexer.specs.Lines.{Item, items_from, marks_from, grouped, AreLines, SomeLineBreaks, RegionBreaks, IsNotAfter, fault_rule, with_parts}
-use Rattle.vb_lexer.specs.Reader.{Reads, lesser_of}
-use Rattle.vb_lexer.specs.Regions.{Tracks, AreBefore}
+use Rattle.vb_lexer.specs.{declared.{error.LexErr.{LexErr, TheVariants.{Refused, Memory}}, piece.{Before.Before, Fault.TheVariants.Region}, reader.Broken.Broken, lines.Progress.Progress}, Characters.Character, Pieces.{Part, Falls, file_front}, Lines.{Item, items_from, marks_from, grouped, AreLines, SomeLineBreaks, RegionBreaks, IsNotAfter, fault_rule, with_parts}, Reader.{Reads, lesser_of}, Regions.{Tracks, AreBefore}}
 
 -- items and marks of a file break the rule in the line
 abbrev pub FileBreaks : List Item → List (ℕ × Bool) → ℕ → ℕ → Type 0

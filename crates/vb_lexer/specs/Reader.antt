@@ -1,15 +1,7 @@
 -- What a reader of pieces holds of the items that it has read.
 use Rattle.std.specs.Prelude.{◌≡◌, ℕ, Bool, true, false, ◌&&◌, ◌||◌, ◌==◌, nat_lt, nat_le, if◌then◌else◌, List, [], ◌∷◌, ◌++◌, length, Option, Some, None}
-use Rattle.vb_syntax.specs.declared.tokens.Token.{Token}
-use Rattle.vb_syntax.specs.declared.tokens.Line.{Line}
-use Rattle.vb_lexer.specs.declared.piece.Piece.{Piece}
-use Rattle.vb_lexer.specs.declared.piece.Fault.{Fault}
-use Rattle.vb_lexer.specs.declared.piece.Fault.TheVariants.{LongLine}
-use Rattle.vb_lexer.specs.declared.reader.Reader.{Reader}
-use Rattle.vb_lexer.specs.declared.reader.Broken.{Broken}
-use Rattle.vb_lexer.specs.Characters.{Character}
-use Rattle.vb_lexer.specs.Pieces.{Part}
-use Rattle.vb_lexer.specs.Lines.{Item, item, is_item, is_fault, goes_on, joined, grouped, AreTokens, AreLines, SomeLineBreaks, IsNotAfter, most_tokens, fault_rule}
+use Rattle.vb_syntax.specs.declared.tokens.{Token.Token, Line.Line}
+use Rattle.vb_lexer.specs.{declared.{piece.{Piece.Piece, Fault.{Fault, TheVariants.LongLine}}, reader.{Reader.Reader, Broken.Broken}}, Characters.Character, Pieces.Part, Lines.{Item, item, is_item, is_fault, goes_on, joined, grouped, AreTokens, AreLines, SomeLineBreaks, IsNotAfter, most_tokens, fault_rule}}
 
 -- each item and the next are joined
 abbrev pub Chain : Item → List Item → Type 0

@@ -1,7 +1,6 @@
 -- The regions of a file, as far as it was read.
 use Rattle.std.specs.Prelude.{◌≡◌, ℕ, zero, suc, ◌+◌, ◌<◌, ◌≤◌, Bool, List, [], ◌∷◌, ◌++◌, Option, Some, None}
-use Rattle.vb_lexer.specs.declared.regions.Regions.{Regions}
-use Rattle.vb_lexer.specs.Lines.{begun, ended, IsUnclosed, IsUnopened, RegionBreaks}
+use Rattle.vb_lexer.specs.{declared.regions.Regions.Regions, Lines.{begun, ended, IsUnclosed, IsUnopened, RegionBreaks}}
 
 -- each of these lines is before the line
 abbrev pub AreBefore : List (ℕ × Bool) → ℕ → Type 0

@@ -1,8 +1,7 @@
 -- The tokens of which there is a list.
 use Rattle.std.specs.Prelude.{List, [], ◌∷◌, ◌++◌}
-use Rattle.vb_syntax.specs.declared.keyword.Keyword.{Keyword}
+use Rattle.vb_syntax.specs.declared.{keyword.Keyword.Keyword, symbol.Symbol.Symbol}
 use Rattle.vb_syntax.specs.declared.keyword.Keyword.TheVariants as word
-use Rattle.vb_syntax.specs.declared.symbol.Symbol.{Symbol}
 use Rattle.vb_syntax.specs.declared.symbol.Symbol.TheVariants as sign
 
 -- RESERVED WORDS (Visual Basic Language Specification 11.0, 2.3), by their first letters

@@ -3,25 +3,12 @@ use Rattle.std.specs.Prelude.{ℕ, ◌+◌, ◌-◌, ◌*◌, ◌^◌, Bool, tru
 use Rattle.std.specs.Char.{to_ascii_lowercase}
 use Rattle.std.specs.Char.Escape.{encode_utf16}
 use Rattle.vb_text.specs.Units.{most_units}
-use Rattle.vb_syntax.specs.Texts.{keyword_text, symbol_text}
-use Rattle.vb_syntax.specs.declared.keyword.Keyword.{Keyword}
-use Rattle.vb_syntax.specs.declared.symbol.Symbol.{Symbol}
-use Rattle.vb_syntax.specs.declared.tokens.IntegerType.{IntegerType}
-use Rattle.vb_syntax.specs.declared.tokens.IntegerType.TheVariants.{Short, UShort, Integer, UInteger, Long, ULong}
-use Rattle.vb_syntax.specs.declared.tokens.IntegerLiteral.{IntegerLiteral}
-use Rattle.vb_lexer.specs.declared.piece.Piece.{Piece}
+use Rattle.vb_syntax.specs.{Texts.{keyword_text, symbol_text}, declared.{keyword.Keyword.Keyword, symbol.Symbol.Symbol, tokens.{IntegerType.{IntegerType, TheVariants.{Short, UShort, Integer, UInteger, Long, ULong}}, IntegerLiteral.IntegerLiteral}}}
+use Rattle.vb_lexer.specs.{declared.{piece.{Piece.Piece, Found.Found, Fault.Fault, Base.{Base, TheVariants.{Decimal, Hexadecimal, Octal}}}, characters.{Class.Class, Run.Run}}, Characters.{Character, is_char, is_line_end, is_space, is_in_line, is_name_part, is_remark, class_of, run_len, readable, is_readable}, Tables.{keywords, symbols}}
 use Rattle.vb_lexer.specs.declared.piece.Piece.TheVariants as piece
-use Rattle.vb_lexer.specs.declared.piece.Found.{Found}
-use Rattle.vb_lexer.specs.declared.piece.Fault.{Fault}
 use Rattle.vb_lexer.specs.declared.piece.Fault.TheVariants as broken
-use Rattle.vb_lexer.specs.declared.piece.Base.{Base}
-use Rattle.vb_lexer.specs.declared.piece.Base.TheVariants.{Decimal, Hexadecimal, Octal}
-use Rattle.vb_lexer.specs.declared.characters.Class.{Class}
 use Rattle.vb_lexer.specs.declared.characters.Class.TheVariants as class
-use Rattle.vb_lexer.specs.declared.characters.Run.{Run}
 use Rattle.vb_lexer.specs.declared.characters.Run.TheVariants as run
-use Rattle.vb_lexer.specs.Characters.{Character, is_char, is_line_end, is_space, is_in_line, is_name_part, is_remark, class_of, run_len, readable, is_readable}
-use Rattle.vb_lexer.specs.Tables.{keywords, symbols}
 
 -- the character at a place
 abbrev pub char_at : List Character → ℕ → Character

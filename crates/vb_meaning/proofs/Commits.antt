@@ -4,10 +4,7 @@ use Rattle.std.specs.Prelude.{nat_le, if◌then◌else◌}
 use Rattle.vb_text.specs.Units.{most_units}
 use Rattle.vb_threads.specs.Machine.{Silent, Asks, Rests}
 use Rattle.vb_value.specs.Store.{Ask, Write, Reply}
-use Rattle.vb_bound.specs.declared.tree.Operand.{Operand}
-use Rattle.vb_bound.specs.declared.tree.Statement.{Statement}
-use Rattle.vb_bound.specs.declared.tree.Statement.TheVariants.{Assign, WriteLine}
-use Rattle.vb_bound.specs.Tree.{Block, Done, Then, Loop, Tree}
+use Rattle.vb_bound.specs.{declared.tree.{Operand.Operand, Statement.{Statement, TheVariants.{Assign, WriteLine}}}, Tree.{Block, Done, Then, Loop, Tree}}
 use Rattle.vb_meaning.specs.Source.{SourceThread, Going, Gone, SourceNext, Pending, Calls-main, Declares, Gives, Does, Acts, Tests, Decides, source_next, throws, out_of_memory, or_overflows, writes, value_of, line_text, declares, does, acts}
 
 -- if it asks, it commits

@@ -3,24 +3,14 @@ use Rattle.std.proofs.Common.{◌≡◌, ◌⊎◌, inl, inr, ℕ, Bool, true, f
 use Rattle.std.specs.Option.{is_some}
 use Rattle.std.proofs.lemmas.List.{take-append-drop}
 use Rattle.vb_text.specs.declared.names.Name.{Name}
-use Rattle.vb_syntax.specs.declared.keyword.Keyword.{Keyword}
+use Rattle.vb_syntax.specs.declared.{keyword.Keyword.Keyword, tokens.Token.Token, types.{SimpleTypeName.SimpleTypeName, TypeName.TypeName}, expression.Expr.{Expr, ObjectCreation'}}
 use Rattle.vb_syntax.specs.declared.keyword.Keyword.TheVariants as word
 use Rattle.vb_syntax.specs.declared.symbol.Symbol.TheVariants as sign
-use Rattle.vb_syntax.specs.declared.tokens.Token.{Token}
 use Rattle.vb_syntax.specs.declared.tokens.Token.TheVariants as token
-use Rattle.vb_syntax.specs.declared.types.SimpleTypeName.{SimpleTypeName}
-use Rattle.vb_syntax.specs.declared.types.TypeName.{TypeName}
-use Rattle.vb_syntax.specs.declared.expression.Expr.{Expr, ObjectCreation'}
 use Rattle.vb_syntax.specs.declared.expression.Expr.TheVariants as e
-use Rattle.vb_parse_expr.specs.Words.{opening, closing, name_of, type_of, word_alone, alone_of, prefix_of}
-use Rattle.vb_parse_expr.specs.Types.{SpellsNames, SpellsType, SpellsSimpleType}
-use Rattle.vb_parse_expr.specs.Expressions.{Edge, Spells, SpellsPrimary}
-use Rattle.vb_parse_expr.specs.Fronts.{IsPrimaryFront, begins_primary}
-use Rattle.vb_parse_decl.specs.Parts.{IsPrimary, IsType}
-use Rattle.vb_parse_decl.specs.Declarators.{IsBound}
-use Rattle.vb_parse_decl.specs.DeclaredReading.{IsPartAt, anything, begins_array, begins_new}
-use Rattle.vb_parse_decl.proofs.Wholes.{primary_front}
-use Rattle.vb_parse_decl.proofs.DeclaredParts.{bound_split}
+use Rattle.vb_parse_expr.specs.{Words.{opening, closing, name_of, type_of, word_alone, alone_of, prefix_of}, Types.{SpellsNames, SpellsType, SpellsSimpleType}, Expressions.{Edge, Spells, SpellsPrimary}, Fronts.{IsPrimaryFront, begins_primary}}
+use Rattle.vb_parse_decl.specs.{Parts.{IsPrimary, IsType}, Declarators.IsBound, DeclaredReading.{IsPartAt, anything, begins_array, begins_new}}
+use Rattle.vb_parse_decl.proofs.{Wholes.primary_front, DeclaredParts.bound_split}
 
 -- each primary begins with a token of those
 abbrev pub PrimaryBegins : Type 0

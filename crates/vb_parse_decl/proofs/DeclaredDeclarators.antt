@@ -6,28 +6,12 @@ use Rattle.std.proofs.lemmas.List.{take-append-drop, drop-drop, length-take-le}
 use Rattle.vb_text.specs.declared.names.Name.{Name}
 use Rattle.vb_syntax.specs.declared.keyword.Keyword.TheVariants as word
 use Rattle.vb_syntax.specs.declared.symbol.Symbol.TheVariants as sign
-use Rattle.vb_syntax.specs.declared.tokens.Token.{Token}
+use Rattle.vb_syntax.specs.declared.{tokens.Token.Token, types.{SimpleTypeName.SimpleTypeName, TypeName.TypeName}, expression.{Expr.Expr, VariableInitializer.VariableInitializer}, declarator.{Declarator.Declarator, VariableIdentifier.VariableIdentifier}}
 use Rattle.vb_syntax.specs.declared.tokens.Token.TheVariants as token
-use Rattle.vb_syntax.specs.declared.types.SimpleTypeName.{SimpleTypeName}
-use Rattle.vb_syntax.specs.declared.types.TypeName.{TypeName}
-use Rattle.vb_syntax.specs.declared.expression.Expr.{Expr}
-use Rattle.vb_syntax.specs.declared.expression.VariableInitializer.{VariableInitializer}
-use Rattle.vb_syntax.specs.declared.declarator.Declarator.{Declarator}
 use Rattle.vb_syntax.specs.declared.declarator.Declarator.TheVariants as declarator
-use Rattle.vb_syntax.specs.declared.declarator.VariableIdentifier.{VariableIdentifier}
-use Rattle.vb_parse_expr.specs.TypeReading.{most_tokens}
-use Rattle.vb_parse_expr.specs.Words.{name_of}
-use Rattle.vb_parse_expr.specs.Types.{IsTypeFront}
-use Rattle.vb_parse_expr.specs.Fronts.{IsFront, IsPrimaryFront, IsInitializerFront}
-use Rattle.vb_parse_decl.specs.Parts.{reserved, equal, IsExpression, IsType, IsParted, AreListed}
-use Rattle.vb_parse_decl.specs.Declarators.{IsIdentifier, IsInitialized, IsNew, IsDeclarator}
-use Rattle.vb_parse_decl.specs.DeclaredReading.{IsPartAt, IsTyped, is_as, is_over, is_end, ends_identifier, begins_new, inferred_name}
-use Rattle.vb_parse_decl.proofs.Refusals.{OneFront}
-use Rattle.vb_parse_decl.proofs.DeclaredParts.{OnePart, part_before, part_whole, one_front, one_part, one_expression, dropped_small, dropped_to, next_dropped, inside}
-use Rattle.vb_parse_decl.proofs.DeclaredLists.{one_list, first_of_list}
-use Rattle.vb_parse_decl.proofs.DeclaredBegins.{PrimaryBegins, no_new_type, new_begins}
-use Rattle.vb_parse_decl.proofs.DeclaredNames.{one_identifier, identifier_ends, declarator_ends, inferred_no_identifier}
-use Rattle.vb_parse_decl.proofs.DeclaredValues.{over_ends, one_new, one_typed}
+use Rattle.vb_parse_expr.specs.{TypeReading.most_tokens, Words.name_of, Types.IsTypeFront, Fronts.{IsFront, IsPrimaryFront, IsInitializerFront}}
+use Rattle.vb_parse_decl.specs.{Parts.{reserved, equal, IsExpression, IsType, IsParted, AreListed}, Declarators.{IsIdentifier, IsInitialized, IsNew, IsDeclarator}, DeclaredReading.{IsPartAt, IsTyped, is_as, is_over, is_end, ends_identifier, begins_new, inferred_name}}
+use Rattle.vb_parse_decl.proofs.{Refusals.OneFront, DeclaredParts.{OnePart, part_before, part_whole, one_front, one_part, one_expression, dropped_small, dropped_to, next_dropped, inside}, DeclaredLists.{one_list, first_of_list}, DeclaredBegins.{PrimaryBegins, no_new_type, new_begins}, DeclaredNames.{one_identifier, identifier_ends, declarator_ends, inferred_no_identifier}, DeclaredValues.{over_ends, one_new, one_typed}}
 
 -- the laws of callees
 pub record Readings : Type 0 where

@@ -1,10 +1,7 @@
 -- What a part's reader tells where it finds none is told again, as nothing stands there without the part.
 use Rattle.std.proofs.Common.{◌≡◌, ℕ, List, drop, Result, Err, sym, subst}
-use Rattle.vb_syntax.specs.declared.tokens.Token.{Token}
-use Rattle.vb_syntax.specs.declared.tokens.Line.{Line}
-use Rattle.vb_parse_expr.specs.declared.error.ParseErr.{ParseErr}
-use Rattle.vb_parse_expr.specs.declared.error.ParseErr.TheVariants.{Refused, Memory}
-use Rattle.vb_parse_expr.specs.Fronts.{Answers}
+use Rattle.vb_syntax.specs.declared.tokens.{Token.Token, Line.Line}
+use Rattle.vb_parse_expr.specs.{declared.error.ParseErr.{ParseErr, TheVariants.{Refused, Memory}}, Fronts.Answers}
 use Rattle.vb_parse_decl.specs.Answers.{Tells}
 
 pub found_on : {X Y : Type 0} (F : List Token → X → ℕ → Type 0) (G : List Token → Y → ℕ → Type 0) (line : Line) (from at : ℕ) (e : ParseErr) (r : Result (Y × ℕ) ParseErr)

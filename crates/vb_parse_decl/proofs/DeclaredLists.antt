@@ -3,11 +3,8 @@ use Rattle.std.proofs.Common.{◌≡◌, ◌⊎◌, inl, inr, ℕ, ◌+◌, ◌-
 use Rattle.std.proofs.Math.Seq.{drop-append_seam}
 use Rattle.std.proofs.lemmas.List.{take-append-drop, drop-drop, length-take-le}
 use Rattle.vb_syntax.specs.declared.tokens.Token.{Token}
-use Rattle.vb_parse_expr.specs.TypeReading.{most_tokens}
-use Rattle.vb_parse_expr.specs.Words.{comma}
-use Rattle.vb_parse_decl.specs.Parts.{AreListed}
-use Rattle.vb_parse_decl.specs.Parts.AreListed.{one, more}
-use Rattle.vb_parse_decl.specs.DeclaredReading.{IsPartAt}
+use Rattle.vb_parse_expr.specs.{TypeReading.most_tokens, Words.comma}
+use Rattle.vb_parse_decl.specs.{Parts.{AreListed, AreListed.{one, more}}, DeclaredReading.IsPartAt}
 use Rattle.vb_parse_decl.proofs.DeclaredParts.{OnePart, part_before, one_front, inside}
 
 -- a comma ends a part, and not the list; what ends the list ends a part

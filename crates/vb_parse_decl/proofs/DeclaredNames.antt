@@ -4,22 +4,12 @@ use Rattle.std.proofs.lemmas.List.{take-append-drop, drop-drop, length-take-le}
 use Rattle.vb_text.specs.declared.names.Name.{Name}
 use Rattle.vb_syntax.specs.declared.keyword.Keyword.TheVariants as word
 use Rattle.vb_syntax.specs.declared.symbol.Symbol.TheVariants as sign
-use Rattle.vb_syntax.specs.declared.tokens.Token.{Token}
+use Rattle.vb_syntax.specs.declared.{tokens.Token.Token, expression.Expr.Expr, declarator.{VariableIdentifier.VariableIdentifier, VariableModifier.VariableModifier}}
 use Rattle.vb_syntax.specs.declared.tokens.Token.TheVariants as token
-use Rattle.vb_syntax.specs.declared.expression.Expr.{Expr}
-use Rattle.vb_syntax.specs.declared.declarator.VariableIdentifier.{VariableIdentifier}
-use Rattle.vb_syntax.specs.declared.declarator.VariableModifier.{VariableModifier}
 use Rattle.vb_syntax.specs.declared.declarator.VariableModifier.TheVariants as modifier
-use Rattle.vb_parse_expr.specs.TypeReading.{most_tokens}
-use Rattle.vb_parse_expr.specs.Words.{opening, closing, comma, name_of}
-use Rattle.vb_parse_expr.specs.Fronts.{IsFront}
-use Rattle.vb_parse_decl.specs.Parts.{equal}
-use Rattle.vb_parse_decl.specs.Declarators.{IsBound, IsModified, IsIdentifier}
-use Rattle.vb_parse_decl.specs.DeclaredReading.{IsPartAt, IsModifier, anything, is_as, is_end, is_over, ends_identifier, begins_array, first_name, inferred_name}
-use Rattle.vb_parse_decl.proofs.Refusals.{OneFront}
-use Rattle.vb_parse_decl.proofs.DeclaredParts.{OnePart, part_before, one_bound, no_other, bound_split, next_dropped, inside, dropped_to}
-use Rattle.vb_parse_decl.proofs.DeclaredLists.{ListEnds}
-use Rattle.vb_parse_decl.proofs.DeclaredBegins.{PrimaryBegins, no_array_bound}
+use Rattle.vb_parse_expr.specs.{TypeReading.most_tokens, Words.{opening, closing, comma, name_of}, Fronts.IsFront}
+use Rattle.vb_parse_decl.specs.{Parts.equal, Declarators.{IsBound, IsModified, IsIdentifier}, DeclaredReading.{IsPartAt, IsModifier, anything, is_as, is_end, is_over, ends_identifier, begins_array, first_name, inferred_name}}
+use Rattle.vb_parse_decl.proofs.{Refusals.OneFront, DeclaredParts.{OnePart, part_before, one_bound, no_other, bound_split, next_dropped, inside, dropped_to}, DeclaredLists.ListEnds, DeclaredBegins.{PrimaryBegins, no_array_bound}}
 
 -- A PART BEHIND A TOKEN
 

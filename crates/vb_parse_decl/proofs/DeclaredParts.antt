@@ -2,16 +2,11 @@
 use Rattle.std.proofs.Common.{◌≡◌, ℕ, ◌+◌, ◌-◌, ◌≤◌, ◌<◌, Bool, true, false, List, [], ◌∷◌, ◌++◌, length, take, drop, refl, sym, ap, subst, ◌∙◌, arith, append_assoc, length-append, length-drop}
 use Rattle.std.proofs.Math.Seq.{take-append_seam, drop-append_seam, take-length, drop-length}
 use Rattle.std.proofs.lemmas.List.{take-append-drop, drop-drop, length-take-le}
-use Rattle.vb_syntax.specs.declared.tokens.Token.{Token}
+use Rattle.vb_syntax.specs.declared.{tokens.Token.Token, expression.Expr.Expr}
 use Rattle.vb_syntax.specs.declared.tokens.Token.TheVariants as token
 use Rattle.vb_syntax.specs.declared.symbol.Symbol.TheVariants as sign
-use Rattle.vb_syntax.specs.declared.expression.Expr.{Expr}
-use Rattle.vb_parse_expr.specs.TypeReading.{most_tokens}
-use Rattle.vb_parse_expr.specs.Words.{opening, closing}
-use Rattle.vb_parse_expr.specs.Fronts.{goes_on, IsFront}
-use Rattle.vb_parse_decl.specs.Parts.{IsExpression}
-use Rattle.vb_parse_decl.specs.Declarators.{IsBound}
-use Rattle.vb_parse_decl.specs.DeclaredReading.{IsPartAt, anything, is_closing, begins_opening}
+use Rattle.vb_parse_expr.specs.{TypeReading.most_tokens, Words.{opening, closing}, Fronts.{goes_on, IsFront}}
+use Rattle.vb_parse_decl.specs.{Parts.IsExpression, Declarators.IsBound, DeclaredReading.{IsPartAt, anything, is_closing, begins_opening}}
 use Rattle.vb_parse_decl.proofs.Refusals.{OneFront}
 
 -- WHERE A PART ENDS

@@ -3,25 +3,13 @@ use Rattle.std.proofs.Common.{◌≡◌, ℕ, ◌+◌, ◌-◌, ◌≤◌, ◌<�
 use Rattle.std.proofs.Math.Seq.{take-append_seam, drop-append_seam}
 use Rattle.std.proofs.lemmas.List.{take-append-drop, length-take-le}
 use Rattle.vb_syntax.specs.declared.symbol.Symbol.TheVariants as sign
-use Rattle.vb_syntax.specs.declared.tokens.Token.{Token}
+use Rattle.vb_syntax.specs.declared.{tokens.Token.Token, types.{SimpleTypeName.SimpleTypeName, TypeName.TypeName}, expression.{Expr.{Expr, out-Expr, out-roll-Expr, TheOpen.Expr-F, TheVariants.rolls-ObjectCreation}, VariableInitializer.VariableInitializer}}
 use Rattle.vb_syntax.specs.declared.tokens.Token.TheVariants as token
-use Rattle.vb_syntax.specs.declared.types.SimpleTypeName.{SimpleTypeName}
-use Rattle.vb_syntax.specs.declared.types.TypeName.{TypeName}
-use Rattle.vb_syntax.specs.declared.expression.Expr.{Expr, out-Expr, out-roll-Expr}
-use Rattle.vb_syntax.specs.declared.expression.Expr.TheOpen.{Expr-F}
-use Rattle.vb_syntax.specs.declared.expression.Expr.TheVariants.{rolls-ObjectCreation}
 use Rattle.vb_syntax.specs.declared.expression.Expr.TheVariants as e
-use Rattle.vb_syntax.specs.declared.expression.VariableInitializer.{VariableInitializer}
 use Rattle.vb_syntax.specs.declared.expression.VariableInitializer.TheVariants as init
-use Rattle.vb_parse_expr.specs.TypeReading.{most_tokens}
-use Rattle.vb_parse_expr.specs.Types.{SpellsType, goes_on_type, IsTypeFront}
-use Rattle.vb_parse_expr.specs.Expressions.{SpellsInitializer}
-use Rattle.vb_parse_expr.specs.Fronts.{goes_on_primary, goes_on_initializer, IsPrimaryFront, IsInitializerFront}
-use Rattle.vb_parse_decl.specs.Parts.{equal, IsType}
-use Rattle.vb_parse_decl.specs.Declarators.{IsNew}
-use Rattle.vb_parse_decl.specs.DeclaredReading.{IsPartAt, IsTyped, is_over, begins_equal}
-use Rattle.vb_parse_decl.proofs.Refusals.{OneFront}
-use Rattle.vb_parse_decl.proofs.DeclaredParts.{EndsExpressions, part_before, dropped_small, dropped_to, not_over, next_dropped, inside}
+use Rattle.vb_parse_expr.specs.{TypeReading.most_tokens, Types.{SpellsType, goes_on_type, IsTypeFront}, Expressions.SpellsInitializer, Fronts.{goes_on_primary, goes_on_initializer, IsPrimaryFront, IsInitializerFront}}
+use Rattle.vb_parse_decl.specs.{Parts.{equal, IsType}, Declarators.IsNew, DeclaredReading.{IsPartAt, IsTyped, is_over, begins_equal}}
+use Rattle.vb_parse_decl.proofs.{Refusals.OneFront, DeclaredParts.{EndsExpressions, part_before, dropped_small, dropped_to, not_over, next_dropped, inside}}
 
 pub over_ends : EndsExpressions is_over
 over_ends [] e = refl

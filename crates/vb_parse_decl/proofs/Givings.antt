@@ -1,8 +1,6 @@
 -- What a reader that failed gives, where another fails with it.
 use Rattle.std.proofs.Common.{◌≡◌, Option, None, Result, Err, sym, subst}
-use Rattle.vb_parse_expr.specs.declared.fault.Fault.{Fault}
-use Rattle.vb_parse_expr.specs.declared.fault.Fault.TheVariants.{Memory, Grammar}
-use Rattle.vb_parse_expr.specs.TypeReading.{Gives, Fails}
+use Rattle.vb_parse_expr.specs.{declared.fault.Fault.{Fault, TheVariants.{Memory, Grammar}}, TypeReading.{Gives, Fails}}
 
 fails_with : {A B : Type 0} (r : Option A) (s : Option B) (f : Fault) → (r ≡ None → s ≡ None) → Fails f r → Fails f s
 fails_with r s Memory none e = tt

@@ -1,10 +1,6 @@
 -- The last name of a type, by the form of the type.
 use Rattle.std.proofs.Common.{◌≡◌, None, refl, ap, sym, ◌∙◌}
-use Rattle.vb_syntax.specs.declared.types.BuiltInTypeName.{BuiltInTypeName}
-use Rattle.vb_syntax.specs.declared.types.QualifiedTypeName.{QualifiedTypeName}
-use Rattle.vb_syntax.specs.declared.types.SimpleTypeName.{SimpleTypeName, out-roll-SimpleTypeName}
-use Rattle.vb_syntax.specs.declared.types.SimpleTypeName.TheOpen.{SimpleTypeName-F}
-use Rattle.vb_syntax.specs.declared.types.SimpleTypeName.TheVariants.{rolls-BuiltIn, rolls-Qualified}
+use Rattle.vb_syntax.specs.declared.types.{BuiltInTypeName.BuiltInTypeName, QualifiedTypeName.QualifiedTypeName, SimpleTypeName.{SimpleTypeName, out-roll-SimpleTypeName, TheOpen.SimpleTypeName-F, TheVariants.{rolls-BuiltIn, rolls-Qualified}}}
 use Rattle.vb_syntax.specs.declared.types.SimpleTypeName.TheVariants as simple
 use Rattle.vb_syntax.specs.declared.types.TypeName.TheVariants as type_name
 use Rattle.vb_parse_expr.specs.TypeReading.{popped}

@@ -4,34 +4,20 @@ use Rattle.std.specs.Prelude.{if◌then◌else◌}
 use Rattle.std.proofs.Math.Seq.{drop-append_seam}
 use Rattle.std.proofs.lemmas.Bool.{both_ways}
 use Rattle.vb_text.specs.declared.names.Name.{Name}
-use Rattle.vb_syntax.specs.declared.keyword.Keyword.{Keyword}
+use Rattle.vb_syntax.specs.declared.{keyword.Keyword.Keyword, tokens.Token.Token, declarator.{Declarator.Declarator, VariableIdentifier.VariableIdentifier, VariableModifier.VariableModifier}, declaration.{Modifier.Modifier, PropertyKind.PropertyKind}, item.DeclarationLine.DeclarationLine, words.ContextualWords.ContextualWords}
 use Rattle.vb_syntax.specs.declared.keyword.Keyword.TheVariants as word
 use Rattle.vb_syntax.specs.declared.symbol.Symbol.TheVariants as sign
-use Rattle.vb_syntax.specs.declared.tokens.Token.{Token}
 use Rattle.vb_syntax.specs.declared.tokens.Token.TheVariants as token
-use Rattle.vb_syntax.specs.declared.declarator.Declarator.{Declarator}
 use Rattle.vb_syntax.specs.declared.declarator.Declarator.TheVariants as declarator
-use Rattle.vb_syntax.specs.declared.declarator.VariableIdentifier.{VariableIdentifier}
-use Rattle.vb_syntax.specs.declared.declarator.VariableModifier.{VariableModifier}
 use Rattle.vb_syntax.specs.declared.declarator.VariableModifier.TheVariants as variable
 use Rattle.vb_syntax.specs.declared.declaration.ClassModifier.TheVariants as class_modifier
 use Rattle.vb_syntax.specs.declared.declaration.FunctionKind.TheVariants as function
-use Rattle.vb_syntax.specs.declared.declaration.Modifier.{Modifier}
-use Rattle.vb_syntax.specs.declared.declaration.PropertyKind.{PropertyKind}
 use Rattle.vb_syntax.specs.declared.declaration.PropertyKind.TheVariants as property
-use Rattle.vb_syntax.specs.declared.item.DeclarationLine.{DeclarationLine}
 use Rattle.vb_syntax.specs.declared.item.DeclarationLine.TheVariants as line
 use Rattle.vb_syntax.specs.declared.item.EventAccessorKind.TheVariants as accessor
-use Rattle.vb_syntax.specs.declared.words.ContextualWords.{ContextualWords}
 use Rattle.vb_parse_expr.specs.Words.{comma, name_of}
-use Rattle.vb_parse_decl.specs.Parts.{reserved, equal, Begins, Words, IsParted, AreListed}
-use Rattle.vb_parse_decl.specs.Declarators.{IsModified, IsIdentifier, IsDeclarator}
-use Rattle.vb_parse_decl.specs.Declarations.{modifier_words, Modified}
-use Rattle.vb_parse_decl.specs.DeclarationLines.{modifiers_of, property_words, IsProperty, Behind, IsDeclarationLine}
-use Rattle.vb_parse_decl.specs.ModifierReading.{after_protected_friend, first_word, first_modifier, read_modifiers}
-use Rattle.vb_parse_decl.specs.LineReading.{begins_member, variables_at, begins_constants}
-use Rattle.vb_parse_decl.proofs.ReadersModifiers.{AreRead, are_read, are_found}
-use Rattle.vb_parse_decl.proofs.LinesRead.{IsHeaderLine}
+use Rattle.vb_parse_decl.specs.{Parts.{reserved, equal, Begins, Words, IsParted, AreListed}, Declarators.{IsModified, IsIdentifier, IsDeclarator}, Declarations.{modifier_words, Modified}, DeclarationLines.{modifiers_of, property_words, IsProperty, Behind, IsDeclarationLine}, ModifierReading.{after_protected_friend, first_word, first_modifier, read_modifiers}, LineReading.{begins_member, variables_at, begins_constants}}
+use Rattle.vb_parse_decl.proofs.{ReadersModifiers.{AreRead, are_read, are_found}, LinesRead.IsHeaderLine}
 
 -- HOW DECLARATORS BEGIN
 

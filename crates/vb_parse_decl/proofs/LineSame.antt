@@ -1,20 +1,10 @@
 -- A line declares one thing at most.
 use Rattle.std.proofs.Common.{◌≡◌, ℕ, ◌≤◌, Bool, true, false, List, length, drop, Option, Some, None, refl, sym, ap, ◌∙◌, arith, length-drop}
-use Rattle.vb_syntax.specs.declared.tokens.Token.{Token}
-use Rattle.vb_syntax.specs.declared.declarator.Declarator.{Declarator}
-use Rattle.vb_syntax.specs.declared.declaration.Modifier.{Modifier}
-use Rattle.vb_syntax.specs.declared.item.DeclarationLine.{DeclarationLine}
+use Rattle.vb_syntax.specs.declared.{tokens.Token.Token, declarator.Declarator.Declarator, declaration.Modifier.Modifier, item.DeclarationLine.DeclarationLine, words.ContextualWords.ContextualWords}
 use Rattle.vb_syntax.specs.declared.item.DeclarationLine.TheVariants as line
-use Rattle.vb_syntax.specs.declared.words.ContextualWords.{ContextualWords}
 use Rattle.vb_parse_expr.specs.TypeReading.{most_tokens}
-use Rattle.vb_parse_decl.specs.Parts.{AreListed}
-use Rattle.vb_parse_decl.specs.Declarators.{IsDeclarator}
-use Rattle.vb_parse_decl.specs.DeclarationLines.{modifiers_of, IsDeclarationLine}
-use Rattle.vb_parse_decl.specs.LineReading.{variables_at, begins_constants, read_header}
-use Rattle.vb_parse_decl.proofs.DeclaredDeclarators.{Readings, declarators_same}
-use Rattle.vb_parse_decl.proofs.Readers.{some_same}
-use Rattle.vb_parse_decl.proofs.LinesRead.{header_read}
-use Rattle.vb_parse_decl.proofs.LineForms.{ReadsAs, as_constants, as_variables, as_header, line_read, read_as}
+use Rattle.vb_parse_decl.specs.{Parts.AreListed, Declarators.IsDeclarator, DeclarationLines.{modifiers_of, IsDeclarationLine}, LineReading.{variables_at, begins_constants, read_header}}
+use Rattle.vb_parse_decl.proofs.{DeclaredDeclarators.{Readings, declarators_same}, Readers.some_same, LinesRead.header_read, LineForms.{ReadsAs, as_constants, as_variables, as_header, line_read, read_as}}
 
 -- both are read with these modifiers, and are spelled behind them
 module _ (laws : Readings) (words : ContextualWords) (us : List Token) (ms : List Modifier) (x y : DeclarationLine) (few : length us ≤ most_tokens)

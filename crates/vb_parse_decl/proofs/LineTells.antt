@@ -3,22 +3,12 @@ use Rattle.std.proofs.Common.{◌≡◌, ◌⊎◌, inl, inr, ℕ, ◌+◌, ◌-
 use Rattle.std.specs.Prelude.{if◌then◌else◌}
 use Rattle.std.proofs.lemmas.List.{drop-drop}
 use Rattle.vb_syntax.specs.declared.keyword.Keyword.TheVariants as word
-use Rattle.vb_syntax.specs.declared.tokens.Token.{Token}
+use Rattle.vb_syntax.specs.declared.{tokens.Token.Token, declarator.Declarator.Declarator, declaration.Modifier.Modifier, item.DeclarationLine.DeclarationLine, words.ContextualWords.ContextualWords}
 use Rattle.vb_syntax.specs.declared.tokens.Token.TheVariants as token
-use Rattle.vb_syntax.specs.declared.declarator.Declarator.{Declarator}
-use Rattle.vb_syntax.specs.declared.declaration.Modifier.{Modifier}
-use Rattle.vb_syntax.specs.declared.item.DeclarationLine.{DeclarationLine}
 use Rattle.vb_syntax.specs.declared.item.DeclarationLine.TheVariants as line
-use Rattle.vb_syntax.specs.declared.words.ContextualWords.{ContextualWords}
 use Rattle.vb_parse_expr.specs.TypeReading.{most_tokens}
-use Rattle.vb_parse_decl.specs.Parts.{reserved, AreListed}
-use Rattle.vb_parse_decl.specs.Declarators.{IsDeclarator}
-use Rattle.vb_parse_decl.specs.DeclarationLines.{Behind, IsDeclarationLine}
-use Rattle.vb_parse_decl.specs.ModifierReading.{read_modifiers}
-use Rattle.vb_parse_decl.specs.LineReading.{begins_member, variables_at, begins_constants, read_header, IsAfterModifiers}
-use Rattle.vb_parse_decl.proofs.LinesFound.{header_stands}
-use Rattle.vb_parse_decl.proofs.LinesRead.{header_read}
-use Rattle.vb_parse_decl.proofs.LineForms.{as_constants, as_variables, as_header, read_as, line_found, place_behind}
+use Rattle.vb_parse_decl.specs.{Parts.{reserved, AreListed}, Declarators.IsDeclarator, DeclarationLines.{Behind, IsDeclarationLine}, ModifierReading.read_modifiers, LineReading.{begins_member, variables_at, begins_constants, read_header, IsAfterModifiers}}
+use Rattle.vb_parse_decl.proofs.{LinesFound.header_stands, LinesRead.header_read, LineForms.{as_constants, as_variables, as_header, read_as, line_found, place_behind}}
 
 -- WHAT STANDS BEFORE DECLARATORS
 

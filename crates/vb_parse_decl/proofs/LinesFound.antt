@@ -3,46 +3,20 @@ use Rattle.std.proofs.Common.{◌≡◌, ℕ, Bool, true, false, List, [], ◌�
 use Rattle.std.specs.Prelude.{◌==◌, if◌then◌else◌}
 use Rattle.std.proofs.lemmas.Bool.{eqb-true}
 use Rattle.vb_text.specs.declared.names.Name.{Name}
-use Rattle.vb_syntax.specs.declared.keyword.Keyword.{Keyword}
+use Rattle.vb_syntax.specs.declared.{keyword.Keyword.Keyword, tokens.Token.Token, types.{TypeName.TypeName, TypeParameter.TypeParameter}, declaration.{Access.Access, ClassModifier.ClassModifier, DelegateKind.DelegateKind, FunctionKind.FunctionKind, ImplementedMember.ImplementedMember, MethodSignature.MethodSignature, Modifier.Modifier, PropertyKind.PropertyKind}, item.{DeclarationLine.DeclarationLine, EventAccessorKind.EventAccessorKind, PropertyHeader.PropertyHeader}, words.ContextualWords.ContextualWords}
 use Rattle.vb_syntax.specs.declared.keyword.Keyword.TheVariants as word
-use Rattle.vb_syntax.specs.declared.tokens.Token.{Token}
 use Rattle.vb_syntax.specs.declared.tokens.Token.TheVariants as token
-use Rattle.vb_syntax.specs.declared.types.TypeName.{TypeName}
-use Rattle.vb_syntax.specs.declared.types.TypeParameter.{TypeParameter}
-use Rattle.vb_syntax.specs.declared.declaration.Access.{Access}
-use Rattle.vb_syntax.specs.declared.declaration.ClassModifier.{ClassModifier}
 use Rattle.vb_syntax.specs.declared.declaration.ClassModifier.TheVariants as class_modifier
-use Rattle.vb_syntax.specs.declared.declaration.DelegateKind.{DelegateKind}
 use Rattle.vb_syntax.specs.declared.declaration.DelegateKind.TheVariants as delegate
-use Rattle.vb_syntax.specs.declared.declaration.FunctionKind.{FunctionKind}
 use Rattle.vb_syntax.specs.declared.declaration.FunctionKind.TheVariants as function
-use Rattle.vb_syntax.specs.declared.declaration.ImplementedMember.{ImplementedMember}
-use Rattle.vb_syntax.specs.declared.declaration.MethodSignature.{MethodSignature}
-use Rattle.vb_syntax.specs.declared.declaration.Modifier.{Modifier}
 use Rattle.vb_syntax.specs.declared.declaration.Modifier.TheVariants as modifier
-use Rattle.vb_syntax.specs.declared.declaration.PropertyKind.{PropertyKind}
 use Rattle.vb_syntax.specs.declared.declaration.PropertyKind.TheVariants as property
-use Rattle.vb_syntax.specs.declared.item.DeclarationLine.{DeclarationLine}
 use Rattle.vb_syntax.specs.declared.item.DeclarationLine.TheVariants as line
-use Rattle.vb_syntax.specs.declared.item.EventAccessorKind.{EventAccessorKind}
 use Rattle.vb_syntax.specs.declared.item.EventAccessorKind.TheVariants as accessor
-use Rattle.vb_syntax.specs.declared.item.PropertyHeader.{PropertyHeader}
-use Rattle.vb_syntax.specs.declared.words.ContextualWords.{ContextualWords}
 use Rattle.vb_parse_expr.specs.TypeReading.{and_then, read_name, read_type, popped}
-use Rattle.vb_parse_expr.proofs.Lists.{popped_append}
-use Rattle.vb_parse_expr.proofs.TypeNames.{then_some, name_first}
-use Rattle.vb_parse_decl.specs.Parts.{reserved, IsType, Names, Words, Part, AreListed}
-use Rattle.vb_parse_decl.specs.Declarations.{AreTypeParameters, IsNameModifier, IsDeclared, AreWritten, AreParameters, Signed, IsResult, IsHandler, IsInitial, AreImplemented}
-use Rattle.vb_parse_decl.specs.DeclarationLines.{access_modifiers, property_modifiers, EndsReadOnly, modifiers_of, delegate_word, property_words, accessor_word, IsProperty, Behind}
-use Rattle.vb_parse_decl.specs.DeclarationReading.{read_list, name_modifier_of, read_declared, read_written, read_parameters, read_type_parameters, read_signature, read_result}
-use Rattle.vb_parse_decl.specs.ModifierReading.{only_access, kind_split, last_split, property_split}
-use Rattle.vb_parse_decl.specs.LineReading.{ended, given, last_implements, read_module, read_class, read_interface, read_delegate, last_types, read_inherits, read_implements_line, read_sub, read_constructor, read_function, read_initial, property_header, property_named, read_property, property_of, read_handler, read_event, read_custom_event, read_get, read_set, read_accessor, class_behind, delegate_behind, sub_behind, write_only_behind, property_behind, by_access, by_word, by_name, read_header}
-use Rattle.vb_parse_decl.proofs.Readers.{read_part, read_names, some_same}
-use Rattle.vb_parse_decl.proofs.ReadersLists.{EndsList}
-use Rattle.vb_parse_decl.proofs.ReadersTypes.{Stops, types_reads}
-use Rattle.vb_parse_decl.proofs.ReadersParameters.{NoTypeParameters, NoParameters, Anything, type_parameters_reads, declared_reads, written_reads, parameters_reads, modifier_found}
-use Rattle.vb_parse_decl.proofs.ReadersMembers.{popped_whole, popped_none, ended_found, whole_found, last_found_members}
-use Rattle.vb_parse_decl.proofs.ReadersSignatures.{EndsInitial, signed_found, result_found, handler_reads, initial_reads}
+use Rattle.vb_parse_expr.proofs.{Lists.popped_append, TypeNames.{then_some, name_first}}
+use Rattle.vb_parse_decl.specs.{Parts.{reserved, IsType, Names, Words, Part, AreListed}, Declarations.{AreTypeParameters, IsNameModifier, IsDeclared, AreWritten, AreParameters, Signed, IsResult, IsHandler, IsInitial, AreImplemented}, DeclarationLines.{access_modifiers, property_modifiers, EndsReadOnly, modifiers_of, delegate_word, property_words, accessor_word, IsProperty, Behind}, DeclarationReading.{read_list, name_modifier_of, read_declared, read_written, read_parameters, read_type_parameters, read_signature, read_result}, ModifierReading.{only_access, kind_split, last_split, property_split}, LineReading.{ended, given, last_implements, read_module, read_class, read_interface, read_delegate, last_types, read_inherits, read_implements_line, read_sub, read_constructor, read_function, read_initial, property_header, property_named, read_property, property_of, read_handler, read_event, read_custom_event, read_get, read_set, read_accessor, class_behind, delegate_behind, sub_behind, write_only_behind, property_behind, by_access, by_word, by_name, read_header}}
+use Rattle.vb_parse_decl.proofs.{Readers.{read_part, read_names, some_same}, ReadersLists.EndsList, ReadersTypes.{Stops, types_reads}, ReadersParameters.{NoTypeParameters, NoParameters, Anything, type_parameters_reads, declared_reads, written_reads, parameters_reads, modifier_found}, ReadersMembers.{popped_whole, popped_none, ended_found, whole_found, last_found_members}, ReadersSignatures.{EndsInitial, signed_found, result_found, handler_reads, initial_reads}}
 
 -- the line has these modifiers, and is spelled behind them
 pub record Stands (words : ContextualWords) (ms : List Modifier) (ts : List Token) (d : DeclarationLine) : Type 0 where

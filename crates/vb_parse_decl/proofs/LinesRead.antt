@@ -4,47 +4,19 @@ use Rattle.std.specs.Prelude.{if◌then◌else◌}
 use Rattle.std.proofs.Common.{eq-eqb}
 use Rattle.vb_text.specs.declared.names.Name.{Name}
 use Rattle.vb_syntax.specs.declared.keyword.Keyword.TheVariants as word
-use Rattle.vb_syntax.specs.declared.tokens.Token.{Token}
+use Rattle.vb_syntax.specs.declared.{tokens.Token.Token, types.{TypeName.TypeName, TypeParameter.TypeParameter}, declaration.{Access.Access, ClassModifier.ClassModifier, DelegateKind.DelegateKind, EventHandler.EventHandler, FunctionKind.FunctionKind, ImplementedMember.ImplementedMember, MethodSignature.MethodSignature, Modifier.Modifier, Parameter.Parameter, PropertyKind.PropertyKind}, item.{DeclarationLine.DeclarationLine, EventAccessorKind.EventAccessorKind, PropertyHeader.PropertyHeader}, words.ContextualWords.ContextualWords}
 use Rattle.vb_syntax.specs.declared.tokens.Token.TheVariants as token
-use Rattle.vb_syntax.specs.declared.types.TypeName.{TypeName}
-use Rattle.vb_syntax.specs.declared.types.TypeParameter.{TypeParameter}
-use Rattle.vb_syntax.specs.declared.declaration.Access.{Access}
-use Rattle.vb_syntax.specs.declared.declaration.ClassModifier.{ClassModifier}
 use Rattle.vb_syntax.specs.declared.declaration.ClassModifier.TheVariants as class_modifier
-use Rattle.vb_syntax.specs.declared.declaration.DelegateKind.{DelegateKind}
 use Rattle.vb_syntax.specs.declared.declaration.DelegateKind.TheVariants as delegate
-use Rattle.vb_syntax.specs.declared.declaration.EventHandler.{EventHandler}
-use Rattle.vb_syntax.specs.declared.declaration.FunctionKind.{FunctionKind}
 use Rattle.vb_syntax.specs.declared.declaration.FunctionKind.TheVariants as function
-use Rattle.vb_syntax.specs.declared.declaration.ImplementedMember.{ImplementedMember}
-use Rattle.vb_syntax.specs.declared.declaration.MethodSignature.{MethodSignature}
-use Rattle.vb_syntax.specs.declared.declaration.Modifier.{Modifier}
 use Rattle.vb_syntax.specs.declared.declaration.Modifier.TheVariants as modifier
-use Rattle.vb_syntax.specs.declared.declaration.Parameter.{Parameter}
-use Rattle.vb_syntax.specs.declared.declaration.PropertyKind.{PropertyKind}
 use Rattle.vb_syntax.specs.declared.declaration.PropertyKind.TheVariants as property
-use Rattle.vb_syntax.specs.declared.item.DeclarationLine.{DeclarationLine}
 use Rattle.vb_syntax.specs.declared.item.DeclarationLine.TheVariants as line
-use Rattle.vb_syntax.specs.declared.item.EventAccessorKind.{EventAccessorKind}
 use Rattle.vb_syntax.specs.declared.item.EventAccessorKind.TheVariants as accessor
-use Rattle.vb_syntax.specs.declared.item.PropertyHeader.{PropertyHeader}
-use Rattle.vb_syntax.specs.declared.words.ContextualWords.{ContextualWords}
-use Rattle.vb_parse_expr.specs.Words.{name_of}
-use Rattle.vb_parse_expr.specs.TypeReading.{and_then, read_name, read_type, after_opening_of, popped, most_tokens}
-use Rattle.vb_parse_expr.specs.Reading.{after_opening}
+use Rattle.vb_parse_expr.specs.{Words.name_of, TypeReading.{and_then, read_name, read_type, after_opening_of, popped, most_tokens}, Reading.after_opening}
 use Rattle.vb_parse_expr.proofs.Lists.{popped_append}
-use Rattle.vb_parse_decl.specs.Parts.{reserved, IsType, IsNamed, Names, Words, Part, AreListed}
-use Rattle.vb_parse_decl.specs.Declarations.{AreTypeParameters, IsNameModifier, IsDeclared, AreWritten, AreParameters, Signed, IsResult, IsHandler, IsInitial, AreImplemented}
-use Rattle.vb_parse_decl.specs.DeclarationLines.{access_modifiers, property_modifiers, EndsReadOnly, modifiers_of, delegate_word, property_words, accessor_word, IsProperty, Behind}
-use Rattle.vb_parse_decl.specs.DeclarationReading.{read_list, name_modifier_of, read_declared, read_written, read_parameters, read_type_parameters, read_signature, read_result}
-use Rattle.vb_parse_decl.specs.ModifierReading.{only_access, kind_split, last_split, property_split}
-use Rattle.vb_parse_decl.specs.LineReading.{ended, given, last_implements, read_module, read_class, read_interface, read_delegate, last_types, read_inherits, read_implements_line, read_sub, read_constructor, read_function, read_initial, property_header, property_named, read_property, property_of, read_handler, read_event, read_custom_event, read_get, read_set, read_accessor, class_behind, delegate_behind, sub_behind, write_only_behind, property_behind, by_access, by_word, by_name, read_header}
-use Rattle.vb_parse_decl.proofs.Readers.{part_read, name_read, then_is}
-use Rattle.vb_parse_decl.proofs.ReadersLists.{EndsList}
-use Rattle.vb_parse_decl.proofs.ReadersTypes.{Stops, types_reads}
-use Rattle.vb_parse_decl.proofs.ReadersParameters.{NoTypeParameters, NoParameters, Anything, type_parameters_reads, declared_reads, written_reads, parameters_reads, modifier_finds}
-use Rattle.vb_parse_decl.proofs.ReadersMembers.{popped_whole, popped_none, whole_reads, last_finds_members, ends_nothing}
-use Rattle.vb_parse_decl.proofs.ReadersSignatures.{EndsInitial, signed_read, result_read, result_no_parameters, handler_reads, initial_reads, implements_no_parameters, implements_stops, implements_ends, declared_no_parameters, initial_stops, nothing_no_opening, nothing_stops}
+use Rattle.vb_parse_decl.specs.{Parts.{reserved, IsType, IsNamed, Names, Words, Part, AreListed}, Declarations.{AreTypeParameters, IsNameModifier, IsDeclared, AreWritten, AreParameters, Signed, IsResult, IsHandler, IsInitial, AreImplemented}, DeclarationLines.{access_modifiers, property_modifiers, EndsReadOnly, modifiers_of, delegate_word, property_words, accessor_word, IsProperty, Behind}, DeclarationReading.{read_list, name_modifier_of, read_declared, read_written, read_parameters, read_type_parameters, read_signature, read_result}, ModifierReading.{only_access, kind_split, last_split, property_split}, LineReading.{ended, given, last_implements, read_module, read_class, read_interface, read_delegate, last_types, read_inherits, read_implements_line, read_sub, read_constructor, read_function, read_initial, property_header, property_named, read_property, property_of, read_handler, read_event, read_custom_event, read_get, read_set, read_accessor, class_behind, delegate_behind, sub_behind, write_only_behind, property_behind, by_access, by_word, by_name, read_header}}
+use Rattle.vb_parse_decl.proofs.{Readers.{part_read, name_read, then_is}, ReadersLists.EndsList, ReadersTypes.{Stops, types_reads}, ReadersParameters.{NoTypeParameters, NoParameters, Anything, type_parameters_reads, declared_reads, written_reads, parameters_reads, modifier_finds}, ReadersMembers.{popped_whole, popped_none, whole_reads, last_finds_members, ends_nothing}, ReadersSignatures.{EndsInitial, signed_read, result_read, result_no_parameters, handler_reads, initial_reads, implements_no_parameters, implements_stops, implements_ends, declared_no_parameters, initial_stops, nothing_no_opening, nothing_stops}}
 
 given_is : {A B : Type 0} (o : Option A) (f : A → Option B) (x : A) → o ≡ Some x → given o f ≡ f x
 given_is o f x e = ap (λ q. given q f) e

@@ -1,8 +1,7 @@
 -- One turn of the loop that reads a list.
 use Rattle.std.proofs.Common.{◌≡◌, ℕ, zero, suc, ◌+◌, ◌-◌, ◌≤◌, ◌<◌, List, [], ◌∷◌, ◌++◌, Some, None, ap, ◌∙◌, arith}
 use Rattle.vb_syntax.specs.declared.tokens.Token.{Token}
-use Rattle.vb_parse_expr.specs.Reading.{after_comma}
-use Rattle.vb_parse_expr.specs.TypeReading.{Read, and_then}
+use Rattle.vb_parse_expr.specs.{Reading.after_comma, TypeReading.{Read, and_then}}
 use Rattle.vb_parse_decl.specs.DeclarationReading.{listed, listed_on}
 
 module _ {X : Type 0} (read : List Token → Read X) where

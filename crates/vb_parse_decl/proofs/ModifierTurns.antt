@@ -1,7 +1,6 @@
 -- One turn of the loop that reads modifiers.
 use Rattle.std.proofs.Common.{◌≡◌, ℕ, suc, ◌+◌, ◌-◌, ◌<◌, List, [], ◌∷◌, ◌++◌, Some, ap, ◌∙◌, arith}
-use Rattle.vb_syntax.specs.declared.tokens.Token.{Token}
-use Rattle.vb_syntax.specs.declared.declaration.Modifier.{Modifier}
+use Rattle.vb_syntax.specs.declared.{tokens.Token.Token, declaration.Modifier.Modifier}
 use Rattle.vb_parse_decl.specs.ModifierReading.{first_modifier, modifier_on, modifiers_from}
 
 pub goes : (k : ℕ) (ms : List Modifier) (m : Modifier) (ts us : List Token) → first_modifier ts ≡ Some (m, us)

@@ -4,12 +4,8 @@ use Rattle.std.specs.List.{slice_get}
 use Rattle.std.proofs.Math.Seq.{take-append_seam, drop-append_seam}
 use Rattle.std.proofs.lemmas.List.{take-append-drop, drop-drop, drop_more, get_or-drop}
 use Rattle.std.proofs.lemmas.Option.{slice_get_within, get_or_from_slice_get, slice_get-get_or}
-use Rattle.vb_syntax.specs.declared.tokens.Token.{Token}
-use Rattle.vb_syntax.specs.declared.types.TypeName.{TypeName}
-use Rattle.vb_syntax.specs.declared.expression.Expr.{Expr}
-use Rattle.vb_parse_expr.specs.Types.{SpellsType, goes_on_type, IsTypeFront}
-use Rattle.vb_parse_expr.specs.Expressions.{Spells, SpellsPrimary}
-use Rattle.vb_parse_expr.specs.Fronts.{goes_on, goes_on_primary, IsFront, IsPrimaryFront}
+use Rattle.vb_syntax.specs.declared.{tokens.Token.Token, types.TypeName.TypeName, expression.Expr.Expr}
+use Rattle.vb_parse_expr.specs.{Types.{SpellsType, goes_on_type, IsTypeFront}, Expressions.{Spells, SpellsPrimary}, Fronts.{goes_on, goes_on_primary, IsFront, IsPrimaryFront}}
 use Rattle.vb_parse_decl.specs.Parts.{IsExpression, IsPrimary, IsType, IsParted}
 
 -- WHERE THE LEFT PART ENDS

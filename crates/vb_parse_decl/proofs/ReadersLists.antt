@@ -3,14 +3,9 @@ use Rattle.std.proofs.Common.{◌≡◌, ℕ, zero, suc, ◌≤◌, ◌<◌, Boo
 use Rattle.vb_syntax.specs.declared.symbol.Symbol.TheVariants as sign
 use Rattle.vb_syntax.specs.declared.tokens.Token.{Token}
 use Rattle.vb_syntax.specs.declared.tokens.Token.TheVariants as token
-use Rattle.vb_parse_expr.specs.Reading.{after_comma}
-use Rattle.vb_parse_expr.specs.TypeReading.{Read, and_then, behind, most_tokens}
-use Rattle.vb_parse_expr.specs.Words.{comma}
-use Rattle.vb_parse_expr.proofs.TypeAhead.{comma_first}
-use Rattle.vb_parse_expr.proofs.TypeNames.{then_some, parts_of}
-use Rattle.vb_parse_decl.specs.Parts.{AreListed}
-use Rattle.vb_parse_decl.specs.Parts.AreListed.{one, more}
-use Rattle.vb_parse_decl.specs.DeclarationReading.{listed_on, listed, read_list, closed}
+use Rattle.vb_parse_expr.specs.{Reading.after_comma, TypeReading.{Read, and_then, behind, most_tokens}, Words.comma}
+use Rattle.vb_parse_expr.proofs.{TypeAhead.comma_first, TypeNames.{then_some, parts_of}}
+use Rattle.vb_parse_decl.specs.{Parts.{AreListed, AreListed.{one, more}}, DeclarationReading.{listed_on, listed, read_list, closed}}
 use Rattle.vb_parse_decl.proofs.Readers.{Reads, then_is, behind_some}
 
 -- what may stand behind a part of a list: a comma, a bracket that closes, or nothing

@@ -3,29 +3,13 @@ use Rattle.std.proofs.Common.{◌≡◌, inl, inr, ◌≤◌, ◌<◌, Bool, tru
 use Rattle.vb_text.specs.declared.names.Name.{Name}
 use Rattle.vb_syntax.specs.declared.keyword.Keyword.TheVariants as word
 use Rattle.vb_syntax.specs.declared.symbol.Symbol.TheVariants as sign
-use Rattle.vb_syntax.specs.declared.tokens.Token.{Token}
+use Rattle.vb_syntax.specs.declared.{tokens.Token.Token, types.{SimpleTypeName.SimpleTypeName, TypeName.TypeName}, declaration.ImplementedMember.ImplementedMember}
 use Rattle.vb_syntax.specs.declared.tokens.Token.TheVariants as token
-use Rattle.vb_syntax.specs.declared.types.SimpleTypeName.{SimpleTypeName}
-use Rattle.vb_syntax.specs.declared.types.TypeName.{TypeName}
 use Rattle.vb_syntax.specs.declared.types.TypeName.TheVariants as type_name
-use Rattle.vb_syntax.specs.declared.declaration.ImplementedMember.{ImplementedMember}
-use Rattle.vb_parse_expr.specs.Reading.{after_dot, after_comma}
-use Rattle.vb_parse_expr.specs.TypeReading.{Read, read_name, read_type, popped, popped_behind, most_tokens}
-use Rattle.vb_parse_expr.specs.Types.{SpellsNames, SpellsType, SpellsSimpleType, SpellsTypeArguments, SpellsTypes, qualified_by}
-use Rattle.vb_parse_expr.specs.Words.{dot, name_of}
-use Rattle.vb_parse_expr.proofs.Lists.{popped_append}
-use Rattle.vb_parse_expr.proofs.TypeAhead.{dot_first}
-use Rattle.vb_parse_expr.proofs.TypeFronts.{type_read}
-use Rattle.vb_parse_expr.proofs.TypeNames.{then_some, parts_of, name_first, read_named}
-use Rattle.vb_parse_decl.specs.Parts.{reserved, IsType, AreListed}
-use Rattle.vb_parse_decl.specs.Declarations.{IsImplemented, AreImplemented}
-use Rattle.vb_parse_decl.specs.DeclarationReading.{after_implements, read_list}
-use Rattle.vb_parse_decl.specs.LineReading.{implemented, member_before, member_behind, read_implemented, members_behind, read_implements, ended, last_implements}
-use Rattle.vb_parse_decl.specs.MemberReading.{named_before, last_name, member_of_simple, member_of}
-use Rattle.vb_parse_decl.proofs.LastNames.{qualified_member, built_in_member, array_member, simple_member}
-use Rattle.vb_parse_decl.proofs.Readers.{Reads, then_is, some_same}
-use Rattle.vb_parse_decl.proofs.ReadersLists.{ends_part, EndsPart, EndsList, list_reads}
-use Rattle.vb_parse_decl.proofs.ReadersTypes.{ends_stops, type_reads}
+use Rattle.vb_parse_expr.specs.{Reading.{after_dot, after_comma}, TypeReading.{Read, read_name, read_type, popped, popped_behind, most_tokens}, Types.{SpellsNames, SpellsType, SpellsSimpleType, SpellsTypeArguments, SpellsTypes, qualified_by}, Words.{dot, name_of}}
+use Rattle.vb_parse_expr.proofs.{Lists.popped_append, TypeAhead.dot_first, TypeFronts.type_read, TypeNames.{then_some, parts_of, name_first, read_named}}
+use Rattle.vb_parse_decl.specs.{Parts.{reserved, IsType, AreListed}, Declarations.{IsImplemented, AreImplemented}, DeclarationReading.{after_implements, read_list}, LineReading.{implemented, member_before, member_behind, read_implemented, members_behind, read_implements, ended, last_implements}, MemberReading.{named_before, last_name, member_of_simple, member_of}}
+use Rattle.vb_parse_decl.proofs.{LastNames.{qualified_member, built_in_member, array_member, simple_member}, Readers.{Reads, then_is, some_same}, ReadersLists.{ends_part, EndsPart, EndsList, list_reads}, ReadersTypes.{ends_stops, type_reads}}
 
 -- THE LAST OF SOME NAMES
 

@@ -1,17 +1,13 @@
 -- Modifiers are read as they are spelled.
 use Rattle.std.proofs.Common.{◌≡◌, ℕ, zero, suc, ◌≤◌, ◌<◌, Bool, true, false, List, [], ◌∷◌, ◌++◌, length, Option, Some, None, refl, sym, ap, subst, ◌∙◌, arith, append_assoc, append-nil}
-use Rattle.vb_syntax.specs.declared.keyword.Keyword.{Keyword}
+use Rattle.vb_syntax.specs.declared.{keyword.Keyword.Keyword, tokens.Token.Token, declaration.Modifier.Modifier}
 use Rattle.vb_syntax.specs.declared.keyword.Keyword.TheVariants as word
-use Rattle.vb_syntax.specs.declared.tokens.Token.{Token}
 use Rattle.vb_syntax.specs.declared.tokens.Token.TheVariants as token
 use Rattle.vb_syntax.specs.declared.declaration.Access.TheVariants as access
-use Rattle.vb_syntax.specs.declared.declaration.Modifier.{Modifier}
 use Rattle.vb_syntax.specs.declared.declaration.Modifier.TheVariants as modifier
 use Rattle.vb_parse_expr.specs.TypeReading.{Read}
 use Rattle.vb_parse_expr.proofs.TypeNames.{parts_of}
-use Rattle.vb_parse_decl.specs.Parts.{reserved, Begins, Words}
-use Rattle.vb_parse_decl.specs.Declarations.{modifier_words, PartsPair, Modified}
-use Rattle.vb_parse_decl.specs.ModifierReading.{word_modifier, modifier_before, after_protected_friend, first_word, one_or_word, first_modifier, modifier_on, modifiers_from, read_modifiers}
+use Rattle.vb_parse_decl.specs.{Parts.{reserved, Begins, Words}, Declarations.{modifier_words, PartsPair, Modified}, ModifierReading.{word_modifier, modifier_before, after_protected_friend, first_word, one_or_word, first_modifier, modifier_on, modifiers_from, read_modifiers}}
 use Rattle.vb_parse_decl.proofs.ModifierTurns.{goes}
 
 -- THE FIRST MODIFIER

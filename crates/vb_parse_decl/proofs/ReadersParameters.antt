@@ -1,29 +1,15 @@
 -- Type parameters, parameters and signatures are read as they are spelled.
 use Rattle.std.proofs.Common.{◌≡◌, ◌⊎◌, inl, inr, ◌≤◌, ◌<◌, true, List, [], ◌∷◌, ◌++◌, length, Option, Some, None, refl, sym, ap, subst, ◌∙◌, arith, append_assoc, length-append}
 use Rattle.vb_text.specs.declared.names.Name.{Name}
-use Rattle.vb_syntax.specs.declared.keyword.Keyword.{Keyword}
+use Rattle.vb_syntax.specs.declared.{keyword.Keyword.Keyword, tokens.Token.Token, types.{TypeName.TypeName, TypeParameter.TypeParameter, TypeConstraint.TypeConstraint}, declaration.{NameModifier.NameModifier, PassedBy.PassedBy, Parameter.Parameter}}
 use Rattle.vb_syntax.specs.declared.keyword.Keyword.TheVariants as word
-use Rattle.vb_syntax.specs.declared.tokens.Token.{Token}
 use Rattle.vb_syntax.specs.declared.tokens.Token.TheVariants as token
-use Rattle.vb_syntax.specs.declared.types.TypeName.{TypeName}
-use Rattle.vb_syntax.specs.declared.types.TypeParameter.{TypeParameter}
-use Rattle.vb_syntax.specs.declared.types.TypeConstraint.{TypeConstraint}
-use Rattle.vb_syntax.specs.declared.declaration.NameModifier.{NameModifier}
 use Rattle.vb_syntax.specs.declared.declaration.NameModifier.TheVariants as name_modifier
-use Rattle.vb_syntax.specs.declared.declaration.PassedBy.{PassedBy}
 use Rattle.vb_syntax.specs.declared.declaration.PassedBy.TheVariants as passed
-use Rattle.vb_syntax.specs.declared.declaration.Parameter.{Parameter}
-use Rattle.vb_parse_expr.specs.Reading.{after_opening, after_closing, after_comma, after_of}
-use Rattle.vb_parse_expr.specs.TypeReading.{Read, and_then, behind, read_name, read_type, after_opening_of, most_tokens}
-use Rattle.vb_parse_expr.specs.Words.{opening, closing, comma, name_of}
-use Rattle.vb_parse_expr.proofs.TypeAhead.{opening_first, closing_first, array_first, opening_of_first, opening_of_stands}
-use Rattle.vb_parse_expr.proofs.TypeNames.{then_some, parts_of, name_first, read_named}
-use Rattle.vb_parse_decl.specs.Parts.{reserved, Names, Begins, Part, AreListed}
-use Rattle.vb_parse_decl.specs.Declarations.{AreConstraints, IsTypeParameter, AreTypeParameters, IsNameModifier, IsDeclared, IsParameter, AreWritten, AreParameters}
-use Rattle.vb_parse_decl.specs.DeclarationReading.{after_as, constraints_behind, type_parameter, read_type_parameter, type_parameters_behind, read_type_parameters, passed_by, array_or_plain, name_modifier_of, read_declared, parameter, parameter_named, parameter_passed, read_parameter, none_or_listed, read_opened, read_written, parameters_behind, read_parameters, read_list}
-use Rattle.vb_parse_decl.proofs.Readers.{Reads, then_is, behind_some}
-use Rattle.vb_parse_decl.proofs.ReadersLists.{ends_part, EndsPart, EndsList, list_reads, closed_found, closed_finds}
-use Rattle.vb_parse_decl.proofs.ReadersTypes.{stops, Stops, ends_stops, type_reads, constraints_reads}
+use Rattle.vb_parse_expr.specs.{Reading.{after_opening, after_closing, after_comma, after_of}, TypeReading.{Read, and_then, behind, read_name, read_type, after_opening_of, most_tokens}, Words.{opening, closing, comma, name_of}}
+use Rattle.vb_parse_expr.proofs.{TypeAhead.{opening_first, closing_first, array_first, opening_of_first, opening_of_stands}, TypeNames.{then_some, parts_of, name_first, read_named}}
+use Rattle.vb_parse_decl.specs.{Parts.{reserved, Names, Begins, Part, AreListed}, Declarations.{AreConstraints, IsTypeParameter, AreTypeParameters, IsNameModifier, IsDeclared, IsParameter, AreWritten, AreParameters}, DeclarationReading.{after_as, constraints_behind, type_parameter, read_type_parameter, type_parameters_behind, read_type_parameters, passed_by, array_or_plain, name_modifier_of, read_declared, parameter, parameter_named, parameter_passed, read_parameter, none_or_listed, read_opened, read_written, parameters_behind, read_parameters, read_list}}
+use Rattle.vb_parse_decl.proofs.{Readers.{Reads, then_is, behind_some}, ReadersLists.{ends_part, EndsPart, EndsList, list_reads, closed_found, closed_finds}, ReadersTypes.{stops, Stops, ends_stops, type_reads, constraints_reads}}
 
 -- AS
 

@@ -1,33 +1,15 @@
 -- Signatures, results, handlers and first values are read as they are spelled.
 use Rattle.std.proofs.Common.{◌≡◌, inl, inr, ◌≤◌, true, false, List, [], ◌∷◌, ◌++◌, length, Option, Some, None, refl, sym, ap, subst, ◌∙◌, arith}
 use Rattle.vb_text.specs.declared.names.Name.{Name}
-use Rattle.vb_syntax.specs.declared.keyword.Keyword.{Keyword}
+use Rattle.vb_syntax.specs.declared.{keyword.Keyword.Keyword, tokens.Token.Token, types.{TypeName.TypeName, TypeParameter.TypeParameter}, expression.Expr.Expr, declaration.{EventHandler.EventHandler, ImplementedMember.ImplementedMember, MethodSignature.MethodSignature, Parameter.Parameter}}
 use Rattle.vb_syntax.specs.declared.keyword.Keyword.TheVariants as word
 use Rattle.vb_syntax.specs.declared.symbol.Symbol.TheVariants as sign
-use Rattle.vb_syntax.specs.declared.tokens.Token.{Token}
 use Rattle.vb_syntax.specs.declared.tokens.Token.TheVariants as token
-use Rattle.vb_syntax.specs.declared.types.TypeName.{TypeName}
-use Rattle.vb_syntax.specs.declared.types.TypeParameter.{TypeParameter}
-use Rattle.vb_syntax.specs.declared.expression.Expr.{Expr}
-use Rattle.vb_syntax.specs.declared.declaration.EventHandler.{EventHandler}
 use Rattle.vb_syntax.specs.declared.declaration.EventHandler.TheVariants as handler
-use Rattle.vb_syntax.specs.declared.declaration.ImplementedMember.{ImplementedMember}
-use Rattle.vb_syntax.specs.declared.declaration.MethodSignature.{MethodSignature}
-use Rattle.vb_syntax.specs.declared.declaration.Parameter.{Parameter}
-use Rattle.vb_parse_expr.specs.Reading.{after_opening}
-use Rattle.vb_parse_expr.specs.TypeReading.{Read, and_then, read_name, read_type, most_tokens}
-use Rattle.vb_parse_expr.specs.Placing.{read_expression}
-use Rattle.vb_parse_expr.specs.Words.{opening, closing}
-use Rattle.vb_parse_expr.specs.Fronts.{goes_on}
+use Rattle.vb_parse_expr.specs.{Reading.after_opening, TypeReading.{Read, and_then, read_name, read_type, most_tokens}, Placing.read_expression, Words.{opening, closing}, Fronts.goes_on}
 use Rattle.vb_parse_expr.proofs.TypeNames.{then_some, parts_of}
-use Rattle.vb_parse_decl.specs.Parts.{reserved, equal, IsType, Part}
-use Rattle.vb_parse_decl.specs.Declarations.{AreTypeParameters, IsDeclared, AreParameters, Signed, IsResult, IsHandler, IsInitial, AreImplemented}
-use Rattle.vb_parse_decl.specs.DeclarationReading.{after_as, after_equal, read_declared, read_written, read_parameters, read_type_parameters, signature, read_signature, result_behind, read_result}
-use Rattle.vb_parse_decl.specs.LineReading.{handler_behind, read_handler, initial_behind, read_initial}
-use Rattle.vb_parse_decl.proofs.Readers.{Reads, Found, then_is, part_read, read_part, name_read, read_names}
-use Rattle.vb_parse_decl.proofs.ReadersTypes.{stops, Stops, type_reads, expression_read}
-use Rattle.vb_parse_decl.proofs.ReadersParameters.{NoTypeParameters, NoParameters, type_parameters_reads, declared_reads, written_reads, parameters_reads, parameters_no_of, as_first, as_stands, opening_stands}
-use Rattle.vb_parse_decl.proofs.ReadersMembers.{whole_reads, whole_found}
+use Rattle.vb_parse_decl.specs.{Parts.{reserved, equal, IsType, Part}, Declarations.{AreTypeParameters, IsDeclared, AreParameters, Signed, IsResult, IsHandler, IsInitial, AreImplemented}, DeclarationReading.{after_as, after_equal, read_declared, read_written, read_parameters, read_type_parameters, signature, read_signature, result_behind, read_result}, LineReading.{handler_behind, read_handler, initial_behind, read_initial}}
+use Rattle.vb_parse_decl.proofs.{Readers.{Reads, Found, then_is, part_read, read_part, name_read, read_names}, ReadersTypes.{stops, Stops, type_reads, expression_read}, ReadersParameters.{NoTypeParameters, NoParameters, type_parameters_reads, declared_reads, written_reads, parameters_reads, parameters_no_of, as_first, as_stands, opening_stands}, ReadersMembers.{whole_reads, whole_found}}
 
 -- WHAT STANDS BEHIND
 

@@ -2,28 +2,13 @@
 use Rattle.std.proofs.Common.{◌≡◌, inl, inr, ◌≤◌, ◌<◌, Bool, true, false, ◌&&◌, List, [], ◌∷◌, ◌++◌, length, Option, Some, None, refl, sym, ap, subst, ◌∙◌, arith, append_assoc}
 use Rattle.vb_syntax.specs.declared.keyword.Keyword.TheVariants as word
 use Rattle.vb_syntax.specs.declared.symbol.Symbol.TheVariants as sign
-use Rattle.vb_syntax.specs.declared.tokens.Token.{Token}
+use Rattle.vb_syntax.specs.declared.{tokens.Token.Token, types.{TypeName.TypeName, TypeConstraint.TypeConstraint}}
 use Rattle.vb_syntax.specs.declared.tokens.Token.TheVariants as token
-use Rattle.vb_syntax.specs.declared.types.TypeName.{TypeName}
-use Rattle.vb_syntax.specs.declared.types.TypeConstraint.{TypeConstraint}
 use Rattle.vb_syntax.specs.declared.types.TypeConstraint.TheVariants as constraint
-use Rattle.vb_parse_expr.specs.Reading.{after_opening_brace, after_closing_brace, after_comma}
-use Rattle.vb_parse_expr.specs.TypeReading.{Read, read_type, most_tokens}
-use Rattle.vb_parse_expr.specs.Placing.{read_expression}
-use Rattle.vb_parse_expr.specs.Words.{opening_brace, closing_brace}
-use Rattle.vb_parse_expr.specs.Types.{goes_on_name, goes_on_array, goes_on_type}
-use Rattle.vb_parse_expr.specs.Fronts.{goes_on}
-use Rattle.vb_parse_expr.proofs.FirstTokens.{opening_brace_first, closing_brace_first}
-use Rattle.vb_parse_expr.proofs.TypeAhead.{over_type, and_false}
-use Rattle.vb_parse_expr.proofs.TypeBegins.{begins_type, some_type, type_begins}
-use Rattle.vb_parse_expr.proofs.TypeFronts.{type_found, type_read}
-use Rattle.vb_parse_expr.proofs.TypeNames.{then_some, parts_of}
-use Rattle.vb_parse_expr.proofs.Wiring.{expression_reads, reads_front}
-use Rattle.vb_parse_decl.specs.Parts.{reserved, IsExpression, IsType, AreListed}
-use Rattle.vb_parse_decl.specs.Declarations.{IsConstraint, AreConstraints}
-use Rattle.vb_parse_decl.specs.DeclarationReading.{constraint_word, word_or_type, read_constraint, one_or_braced, read_constraints, read_list}
-use Rattle.vb_parse_decl.proofs.Readers.{Reads, weaker, then_is}
-use Rattle.vb_parse_decl.proofs.ReadersLists.{ends_part, EndsPart, EndsList, list_reads, closed_found, closed_finds}
+use Rattle.vb_parse_expr.specs.{Reading.{after_opening_brace, after_closing_brace, after_comma}, TypeReading.{Read, read_type, most_tokens}, Placing.read_expression, Words.{opening_brace, closing_brace}, Types.{goes_on_name, goes_on_array, goes_on_type}, Fronts.goes_on}
+use Rattle.vb_parse_expr.proofs.{FirstTokens.{opening_brace_first, closing_brace_first}, TypeAhead.{over_type, and_false}, TypeBegins.{begins_type, some_type, type_begins}, TypeFronts.{type_found, type_read}, TypeNames.{then_some, parts_of}, Wiring.{expression_reads, reads_front}}
+use Rattle.vb_parse_decl.specs.{Parts.{reserved, IsExpression, IsType, AreListed}, Declarations.{IsConstraint, AreConstraints}, DeclarationReading.{constraint_word, word_or_type, read_constraint, one_or_braced, read_constraints, read_list}}
+use Rattle.vb_parse_decl.proofs.{Readers.{Reads, weaker, then_is}, ReadersLists.{ends_part, EndsPart, EndsList, list_reads, closed_found, closed_finds}}
 
 -- TYPES
 

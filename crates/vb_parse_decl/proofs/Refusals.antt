@@ -1,17 +1,9 @@
 -- Where a part isn't found, or ends elsewhere, nothing is spelled.
 use Rattle.std.proofs.Common.{◌≡◌, ℕ, ◌-◌, ◌≤◌, List, length, drop, Result, Err, sym, subst, arith, length-drop}
-use Rattle.vb_syntax.specs.declared.tokens.Token.{Token}
-use Rattle.vb_syntax.specs.declared.tokens.Line.{Line}
-use Rattle.vb_syntax.specs.declared.expression.Expr.{Expr}
-use Rattle.vb_syntax.specs.declared.expression.VariableInitializer.{VariableInitializer}
-use Rattle.vb_parse_expr.specs.declared.error.ParseErr.{ParseErr}
-use Rattle.vb_parse_expr.specs.declared.error.ParseErr.TheVariants.{Refused, Memory}
-use Rattle.vb_parse_expr.specs.Expressions.{SpellsInitializer}
-use Rattle.vb_parse_expr.specs.Fronts.{IsFront, IsInitializerFront}
-use Rattle.vb_parse_expr.specs.TypeReading.{most_tokens}
+use Rattle.vb_syntax.specs.declared.{tokens.{Token.Token, Line.Line}, expression.{Expr.Expr, VariableInitializer.VariableInitializer}}
+use Rattle.vb_parse_expr.specs.{declared.error.ParseErr.{ParseErr, TheVariants.{Refused, Memory}}, Expressions.SpellsInitializer, Fronts.{IsFront, IsInitializerFront}, TypeReading.most_tokens}
 use Rattle.vb_parse_decl.proofs.Wholes.{expression_front, initializer_front}
-use Rattle.vb_parse_decl.specs.Parts.{IsExpression}
-use Rattle.vb_parse_decl.specs.Answers.{Tells}
+use Rattle.vb_parse_decl.specs.{Parts.IsExpression, Answers.Tells}
 
 -- there is one of a kind at most at the front of a line's tokens
 abbrev pub OneFront : {X : Type 0} → (List Token → X → ℕ → Type 0) → Type 0

@@ -1,14 +1,9 @@
 -- What all the tokens are stands at their front.
 use Rattle.std.proofs.Common.{◌≡◌, Bool, true, false, List, [], length, refl, sym, ap, subst, arith}
 use Rattle.std.proofs.Math.Seq.{take-length, drop-length}
-use Rattle.vb_syntax.specs.declared.tokens.Token.{Token}
-use Rattle.vb_syntax.specs.declared.types.TypeName.{TypeName}
-use Rattle.vb_syntax.specs.declared.expression.Expr.{Expr}
-use Rattle.vb_syntax.specs.declared.expression.VariableInitializer.{VariableInitializer}
+use Rattle.vb_syntax.specs.declared.{tokens.Token.Token, types.TypeName.TypeName, expression.{Expr.Expr, VariableInitializer.VariableInitializer}}
 use Rattle.vb_syntax.specs.declared.expression.VariableInitializer.TheVariants as init
-use Rattle.vb_parse_expr.specs.Types.{SpellsType, goes_on_type, IsTypeFront}
-use Rattle.vb_parse_expr.specs.Expressions.{Spells, SpellsPrimary, SpellsInitializer}
-use Rattle.vb_parse_expr.specs.Fronts.{goes_on, goes_on_primary, goes_on_initializer, IsFront, IsPrimaryFront, IsInitializerFront}
+use Rattle.vb_parse_expr.specs.{Types.{SpellsType, goes_on_type, IsTypeFront}, Expressions.{Spells, SpellsPrimary, SpellsInitializer}, Fronts.{goes_on, goes_on_primary, goes_on_initializer, IsFront, IsPrimaryFront, IsInitializerFront}}
 use Rattle.vb_parse_decl.specs.Parts.{IsExpression, IsPrimary, IsType}
 
 -- EXPRESSIONS

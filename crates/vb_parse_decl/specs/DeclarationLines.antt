@@ -1,29 +1,16 @@
 -- Which tokens spell which line of the declarations of types and members (Visual Basic Language Specification 11.0, 7 and 9).
 use Rattle.std.specs.Prelude.{◌≡◌, ◌⊎◌, List, [], ◌∷◌, ◌++◌, Option, Some, None}
-use Rattle.vb_syntax.specs.declared.keyword.Keyword.{Keyword}
+use Rattle.vb_syntax.specs.declared.{keyword.Keyword.Keyword, tokens.Token.Token, declaration.{Access.Access, ClassModifier.ClassModifier, DelegateKind.DelegateKind, FunctionKind.FunctionKind, Modifier.Modifier, PropertyKind.PropertyKind}, item.{DeclarationLine.DeclarationLine, EventAccessorKind.EventAccessorKind, PropertyHeader.PropertyHeader}, words.ContextualWords.ContextualWords}
 use Rattle.vb_syntax.specs.declared.keyword.Keyword.TheVariants as word
-use Rattle.vb_syntax.specs.declared.tokens.Token.{Token}
 use Rattle.vb_syntax.specs.declared.tokens.Token.TheVariants as token
-use Rattle.vb_syntax.specs.declared.declaration.Access.{Access}
-use Rattle.vb_syntax.specs.declared.declaration.ClassModifier.{ClassModifier}
 use Rattle.vb_syntax.specs.declared.declaration.ClassModifier.TheVariants as class_modifier
-use Rattle.vb_syntax.specs.declared.declaration.DelegateKind.{DelegateKind}
 use Rattle.vb_syntax.specs.declared.declaration.DelegateKind.TheVariants as delegate
-use Rattle.vb_syntax.specs.declared.declaration.FunctionKind.{FunctionKind}
 use Rattle.vb_syntax.specs.declared.declaration.FunctionKind.TheVariants as function
-use Rattle.vb_syntax.specs.declared.declaration.Modifier.{Modifier}
 use Rattle.vb_syntax.specs.declared.declaration.Modifier.TheVariants as modifier
-use Rattle.vb_syntax.specs.declared.declaration.PropertyKind.{PropertyKind}
 use Rattle.vb_syntax.specs.declared.declaration.PropertyKind.TheVariants as property
-use Rattle.vb_syntax.specs.declared.item.DeclarationLine.{DeclarationLine}
 use Rattle.vb_syntax.specs.declared.item.DeclarationLine.TheVariants as line
-use Rattle.vb_syntax.specs.declared.item.EventAccessorKind.{EventAccessorKind}
 use Rattle.vb_syntax.specs.declared.item.EventAccessorKind.TheVariants as accessor
-use Rattle.vb_syntax.specs.declared.item.PropertyHeader.{PropertyHeader}
-use Rattle.vb_syntax.specs.declared.words.ContextualWords.{ContextualWords}
-use Rattle.vb_parse_decl.specs.Parts.{reserved, IsType, IsNamed, After, Begins, Names, Words, Part, AreListed}
-use Rattle.vb_parse_decl.specs.Declarators.{IsDeclarator}
-use Rattle.vb_parse_decl.specs.Declarations.{Modified, IsDeclared, AreTypeParameters, IsNameModifier, AreWritten, AreParameters, Signed, IsResult, IsHandler, IsInitial, AreImplemented}
+use Rattle.vb_parse_decl.specs.{Parts.{reserved, IsType, IsNamed, After, Begins, Names, Words, Part, AreListed}, Declarators.IsDeclarator, Declarations.{Modified, IsDeclared, AreTypeParameters, IsNameModifier, AreWritten, AreParameters, Signed, IsResult, IsHandler, IsInitial, AreImplemented}}
 
 -- THE MODIFIERS OF A LINE
 

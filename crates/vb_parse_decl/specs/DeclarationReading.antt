@@ -3,20 +3,12 @@ use Rattle.std.specs.Prelude.{ℕ, zero, suc, List, [], ◌∷◌, ◌++◌, len
 use Rattle.vb_text.specs.declared.names.Name.{Name}
 use Rattle.vb_syntax.specs.declared.keyword.Keyword.TheVariants as word
 use Rattle.vb_syntax.specs.declared.symbol.Symbol.TheVariants as sign
-use Rattle.vb_syntax.specs.declared.tokens.Token.{Token}
+use Rattle.vb_syntax.specs.declared.{tokens.Token.Token, types.{TypeName.TypeName, TypeParameter.TypeParameter, TypeConstraint.TypeConstraint}, declaration.{NameModifier.NameModifier, PassedBy.PassedBy, Parameter.Parameter, MethodSignature.MethodSignature}}
 use Rattle.vb_syntax.specs.declared.tokens.Token.TheVariants as token
-use Rattle.vb_syntax.specs.declared.types.TypeName.{TypeName}
-use Rattle.vb_syntax.specs.declared.types.TypeParameter.{TypeParameter}
-use Rattle.vb_syntax.specs.declared.types.TypeConstraint.{TypeConstraint}
 use Rattle.vb_syntax.specs.declared.types.TypeConstraint.TheVariants as constraint
-use Rattle.vb_syntax.specs.declared.declaration.NameModifier.{NameModifier}
 use Rattle.vb_syntax.specs.declared.declaration.NameModifier.TheVariants as name_modifier
-use Rattle.vb_syntax.specs.declared.declaration.PassedBy.{PassedBy}
 use Rattle.vb_syntax.specs.declared.declaration.PassedBy.TheVariants as passed
-use Rattle.vb_syntax.specs.declared.declaration.Parameter.{Parameter}
-use Rattle.vb_syntax.specs.declared.declaration.MethodSignature.{MethodSignature}
-use Rattle.vb_parse_expr.specs.Reading.{after_opening, after_closing, after_opening_brace, after_closing_brace, after_comma}
-use Rattle.vb_parse_expr.specs.TypeReading.{Read, and_then, behind, after_opening_of, read_name, read_type}
+use Rattle.vb_parse_expr.specs.{Reading.{after_opening, after_closing, after_opening_brace, after_closing_brace, after_comma}, TypeReading.{Read, and_then, behind, after_opening_of, read_name, read_type}}
 
 -- what stands behind a token, where it comes first
 unfoldable pub after_as : List Token → Option (List Token)

@@ -1,26 +1,14 @@
 -- The parts of declarations (Visual Basic Language Specification 11.0, at each part).
 use Rattle.std.specs.Prelude.{◌≡◌, ◌⊎◌, List, [], ◌∷◌, ◌++◌, Option, Some}
 use Rattle.vb_text.specs.declared.names.Name.{Name}
-use Rattle.vb_syntax.specs.declared.keyword.Keyword.{Keyword}
+use Rattle.vb_syntax.specs.declared.{keyword.Keyword.Keyword, tokens.Token.Token, types.{TypeName.TypeName, TypeParameter.TypeParameter, TypeConstraint.TypeConstraint}, expression.Expr.Expr, declaration.{Access.Access, Modifier.Modifier, NameModifier.NameModifier, PassedBy.PassedBy, Parameter.Parameter, EventHandler.EventHandler, ImplementedMember.ImplementedMember}}
 use Rattle.vb_syntax.specs.declared.keyword.Keyword.TheVariants as word
-use Rattle.vb_syntax.specs.declared.tokens.Token.{Token}
-use Rattle.vb_syntax.specs.declared.types.TypeName.{TypeName}
-use Rattle.vb_syntax.specs.declared.types.TypeParameter.{TypeParameter}
-use Rattle.vb_syntax.specs.declared.types.TypeConstraint.{TypeConstraint}
 use Rattle.vb_syntax.specs.declared.types.TypeConstraint.TheVariants as constraint
-use Rattle.vb_syntax.specs.declared.expression.Expr.{Expr}
-use Rattle.vb_syntax.specs.declared.declaration.Access.{Access}
 use Rattle.vb_syntax.specs.declared.declaration.Access.TheVariants as access
-use Rattle.vb_syntax.specs.declared.declaration.Modifier.{Modifier}
 use Rattle.vb_syntax.specs.declared.declaration.Modifier.TheVariants as modifier
-use Rattle.vb_syntax.specs.declared.declaration.NameModifier.{NameModifier}
 use Rattle.vb_syntax.specs.declared.declaration.NameModifier.TheVariants as name_modifier
-use Rattle.vb_syntax.specs.declared.declaration.PassedBy.{PassedBy}
 use Rattle.vb_syntax.specs.declared.declaration.PassedBy.TheVariants as passed
-use Rattle.vb_syntax.specs.declared.declaration.Parameter.{Parameter}
-use Rattle.vb_syntax.specs.declared.declaration.EventHandler.{EventHandler}
 use Rattle.vb_syntax.specs.declared.declaration.EventHandler.TheVariants as handler
-use Rattle.vb_syntax.specs.declared.declaration.ImplementedMember.{ImplementedMember}
 use Rattle.vb_parse_expr.specs.Words.{opening, closing, opening_brace, closing_brace, dot, name_of}
 use Rattle.vb_parse_decl.specs.Parts.{reserved, equal, IsExpression, IsType, After, Begins, Names, Words, Part, IsOptional, AreListed}
 

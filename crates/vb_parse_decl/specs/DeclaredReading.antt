@@ -3,14 +3,10 @@ use Rattle.std.specs.Prelude.{◌≡◌, ℕ, ◌≤◌, Bool, true, false, List
 use Rattle.vb_text.specs.declared.names.Name.{Name}
 use Rattle.vb_syntax.specs.declared.keyword.Keyword.TheVariants as word
 use Rattle.vb_syntax.specs.declared.symbol.Symbol.TheVariants as sign
-use Rattle.vb_syntax.specs.declared.tokens.Token.{Token}
+use Rattle.vb_syntax.specs.declared.{tokens.Token.Token, types.TypeName.TypeName, expression.VariableInitializer.VariableInitializer, declarator.VariableModifier.VariableModifier}
 use Rattle.vb_syntax.specs.declared.tokens.Token.TheVariants as token
-use Rattle.vb_syntax.specs.declared.types.TypeName.{TypeName}
-use Rattle.vb_syntax.specs.declared.expression.VariableInitializer.{VariableInitializer}
-use Rattle.vb_syntax.specs.declared.declarator.VariableModifier.{VariableModifier}
 use Rattle.vb_parse_expr.specs.Words.{name_of}
-use Rattle.vb_parse_decl.specs.Parts.{IsType}
-use Rattle.vb_parse_decl.specs.Declarators.{IsModified, IsInitialized}
+use Rattle.vb_parse_decl.specs.{Parts.IsType, Declarators.{IsModified, IsInitialized}}
 
 -- WHAT STANDS BEHIND A PART
 

@@ -1,40 +1,18 @@
 -- How what stands behind the modifiers of a line is read: private steps on lists, which the code equals.
 use Rattle.std.specs.Prelude.{◌≡◌, ◌==◌, if◌then◌else◌, ℕ, Bool, true, false, List, [], ◌∷◌, Option, Some, None}
 use Rattle.vb_text.specs.declared.names.Name.{Name}
-use Rattle.vb_syntax.specs.declared.keyword.Keyword.{Keyword}
+use Rattle.vb_syntax.specs.declared.{keyword.Keyword.Keyword, tokens.Token.Token, types.TypeName.TypeName, expression.Expr.Expr, declarator.Declarator.Declarator, declaration.{ClassModifier.ClassModifier, DelegateKind.DelegateKind, EventHandler.EventHandler, FunctionKind.FunctionKind, ImplementedMember.ImplementedMember, Modifier.Modifier, NameModifier.NameModifier, PropertyKind.PropertyKind}, item.{DeclarationLine.DeclarationLine, EventAccessorKind.EventAccessorKind, PropertyHeader.PropertyHeader}, words.ContextualWords.ContextualWords}
 use Rattle.vb_syntax.specs.declared.keyword.Keyword.TheVariants as word
-use Rattle.vb_syntax.specs.declared.tokens.Token.{Token}
 use Rattle.vb_syntax.specs.declared.tokens.Token.TheVariants as token
-use Rattle.vb_syntax.specs.declared.types.TypeName.{TypeName}
-use Rattle.vb_syntax.specs.declared.expression.Expr.{Expr}
-use Rattle.vb_syntax.specs.declared.declarator.Declarator.{Declarator}
-use Rattle.vb_syntax.specs.declared.declaration.ClassModifier.{ClassModifier}
 use Rattle.vb_syntax.specs.declared.declaration.ClassModifier.TheVariants as class_modifier
-use Rattle.vb_syntax.specs.declared.declaration.DelegateKind.{DelegateKind}
 use Rattle.vb_syntax.specs.declared.declaration.DelegateKind.TheVariants as delegate
-use Rattle.vb_syntax.specs.declared.declaration.EventHandler.{EventHandler}
 use Rattle.vb_syntax.specs.declared.declaration.EventHandler.TheVariants as handler
-use Rattle.vb_syntax.specs.declared.declaration.FunctionKind.{FunctionKind}
 use Rattle.vb_syntax.specs.declared.declaration.FunctionKind.TheVariants as function
-use Rattle.vb_syntax.specs.declared.declaration.ImplementedMember.{ImplementedMember}
-use Rattle.vb_syntax.specs.declared.declaration.Modifier.{Modifier}
-use Rattle.vb_syntax.specs.declared.declaration.NameModifier.{NameModifier}
-use Rattle.vb_syntax.specs.declared.declaration.PropertyKind.{PropertyKind}
 use Rattle.vb_syntax.specs.declared.declaration.PropertyKind.TheVariants as property
-use Rattle.vb_syntax.specs.declared.item.DeclarationLine.{DeclarationLine}
 use Rattle.vb_syntax.specs.declared.item.DeclarationLine.TheVariants as line
-use Rattle.vb_syntax.specs.declared.item.EventAccessorKind.{EventAccessorKind}
 use Rattle.vb_syntax.specs.declared.item.EventAccessorKind.TheVariants as accessor
-use Rattle.vb_syntax.specs.declared.item.PropertyHeader.{PropertyHeader}
-use Rattle.vb_syntax.specs.declared.words.ContextualWords.{ContextualWords}
-use Rattle.vb_parse_expr.specs.Reading.{after_opening, after_dot}
-use Rattle.vb_parse_expr.specs.TypeReading.{Read, and_then, read_name, read_type}
-use Rattle.vb_parse_expr.specs.Placing.{read_expression}
-use Rattle.vb_parse_decl.specs.DeclarationReading.{after_implements, after_equal, read_list, name_modifier_of, read_declared, read_written, read_parameters, read_type_parameters, read_signature, read_result}
-use Rattle.vb_parse_decl.specs.MemberReading.{member_of as member_in}
-use Rattle.vb_parse_decl.specs.ModifierReading.{only_access, property_split}
-use Rattle.vb_parse_decl.specs.Parts.{AreListed}
-use Rattle.vb_parse_decl.specs.Declarators.{IsDeclarator}
+use Rattle.vb_parse_expr.specs.{Reading.{after_opening, after_dot}, TypeReading.{Read, and_then, read_name, read_type}, Placing.read_expression}
+use Rattle.vb_parse_decl.specs.{DeclarationReading.{after_implements, after_equal, read_list, name_modifier_of, read_declared, read_written, read_parameters, read_type_parameters, read_signature, read_result}, MemberReading.member_of as member_in, ModifierReading.{only_access, property_split}, Parts.AreListed, Declarators.IsDeclarator}
 
 -- IMPLEMENTED MEMBERS
 

@@ -1,12 +1,9 @@
 -- The last name of a type: a private function, which the code equals.
 use Rattle.std.specs.Prelude.{List, [], ◌∷◌, Option, Some, None}
 use Rattle.vb_text.specs.declared.names.Name.{Name}
-use Rattle.vb_syntax.specs.declared.types.TypeName.{TypeName}
+use Rattle.vb_syntax.specs.declared.types.{TypeName.TypeName, SimpleTypeName.{SimpleTypeName, out-SimpleTypeName, TheOpen.SimpleTypeName-F}}
 use Rattle.vb_syntax.specs.declared.types.TypeName.TheVariants as type_name
-use Rattle.vb_syntax.specs.declared.types.SimpleTypeName.{SimpleTypeName, out-SimpleTypeName}
-use Rattle.vb_syntax.specs.declared.types.SimpleTypeName.TheOpen.{SimpleTypeName-F}
-use Rattle.vb_parse_expr.specs.Types.{qualified_by}
-use Rattle.vb_parse_expr.specs.TypeReading.{popped}
+use Rattle.vb_parse_expr.specs.{Types.qualified_by, TypeReading.popped}
 
 abbrev pub named_before : List Name → Name → Option (TypeName × Name)
 named_before [] n = None

@@ -1,14 +1,10 @@
 -- How the modifiers of a line are read: private steps on lists, which the code equals.
 use Rattle.std.specs.Prelude.{ℕ, zero, suc, List, [], ◌∷◌, ◌++◌, length, Option, Some, None}
-use Rattle.vb_syntax.specs.declared.keyword.Keyword.{Keyword}
+use Rattle.vb_syntax.specs.declared.{keyword.Keyword.Keyword, tokens.Token.Token, declaration.{Access.Access, Modifier.Modifier, PropertyKind.PropertyKind}}
 use Rattle.vb_syntax.specs.declared.keyword.Keyword.TheVariants as word
-use Rattle.vb_syntax.specs.declared.tokens.Token.{Token}
 use Rattle.vb_syntax.specs.declared.tokens.Token.TheVariants as token
-use Rattle.vb_syntax.specs.declared.declaration.Access.{Access}
 use Rattle.vb_syntax.specs.declared.declaration.Access.TheVariants as access
-use Rattle.vb_syntax.specs.declared.declaration.Modifier.{Modifier}
 use Rattle.vb_syntax.specs.declared.declaration.Modifier.TheVariants as modifier
-use Rattle.vb_syntax.specs.declared.declaration.PropertyKind.{PropertyKind}
 use Rattle.vb_syntax.specs.declared.declaration.PropertyKind.TheVariants as property
 use Rattle.vb_parse_expr.specs.TypeReading.{Read, popped}
 

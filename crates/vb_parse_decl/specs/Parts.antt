@@ -1,15 +1,10 @@
 -- The parts of lines, and how parts stand one behind the other.
 use Rattle.std.specs.Prelude.{◌≡◌, ℕ, Bool, List, [], ◌∷◌, ◌++◌, Option, Some, None}
 use Rattle.vb_text.specs.declared.names.Name.{Name}
-use Rattle.vb_syntax.specs.declared.keyword.Keyword.{Keyword}
+use Rattle.vb_syntax.specs.declared.{keyword.Keyword.Keyword, tokens.Token.Token, types.TypeName.TypeName, expression.Expr.Expr}
 use Rattle.vb_syntax.specs.declared.symbol.Symbol.TheVariants as sign
-use Rattle.vb_syntax.specs.declared.tokens.Token.{Token}
 use Rattle.vb_syntax.specs.declared.tokens.Token.TheVariants as token
-use Rattle.vb_syntax.specs.declared.types.TypeName.{TypeName}
-use Rattle.vb_syntax.specs.declared.expression.Expr.{Expr}
-use Rattle.vb_parse_expr.specs.Words.{comma, name_of}
-use Rattle.vb_parse_expr.specs.Types.{SpellsType}
-use Rattle.vb_parse_expr.specs.Expressions.{Edge, Spells, SpellsPrimary}
+use Rattle.vb_parse_expr.specs.{Words.{comma, name_of}, Types.SpellsType, Expressions.{Edge, Spells, SpellsPrimary}}
 
 abbrev pub reserved : Keyword → Token
 reserved w = token.Keyword w

@@ -1,14 +1,8 @@
 -- Whatever the relation spells is read: by induction on what is spelled.
 use Rattle.std.proofs.Common.{ℕ, List}
-use Rattle.vb_syntax.specs.declared.tokens.Token.{Token}
-use Rattle.vb_syntax.specs.declared.expression.Expr.{Expr}
-use Rattle.vb_syntax.specs.declared.expression.VariableInitializer.{VariableInitializer}
-use Rattle.vb_parse_expr.specs.declared.pending.Goal.{Goal}
-use Rattle.vb_parse_expr.specs.Expressions.{Edge, Spells, SpellsPrimary, SpellsArguments, SpellsList, SpellsInitializer, SpellsElements, SpellsInitializers}
-use Rattle.vb_parse_expr.proofs.Firsts.{expression_begins, initializers_begin}
-use Rattle.vb_parse_expr.proofs.ReadingParts.{ReadsExpression, ReadsPrimary, ReadsArguments, ReadsList, ReadsInitializer, ReadsElements, ReadsInitializers, primary_expression, prefix_expression, binary_expression}
-use Rattle.vb_parse_expr.proofs.ReadingLists.{one_list, more_list, empty_arguments, some_arguments, expression_initializer, elements_initializer, one_element, more_elements, empty_elements, some_elements}
-use Rattle.vb_parse_expr.proofs.ReadingPrimaries.{alone_primary, name_primary, address_primary, test_primary, member_primary, type_member_primary, with_member_primary, invocation_primary, creation_primary, creation_with_primary, array_primary, bounded_array_primary, parenthesized_primary, conversion_primary, cast_primary, conditional_primary}
+use Rattle.vb_syntax.specs.declared.{tokens.Token.Token, expression.{Expr.Expr, VariableInitializer.VariableInitializer}}
+use Rattle.vb_parse_expr.specs.{declared.pending.Goal.Goal, Expressions.{Edge, Spells, SpellsPrimary, SpellsArguments, SpellsList, SpellsInitializer, SpellsElements, SpellsInitializers}}
+use Rattle.vb_parse_expr.proofs.{Firsts.{expression_begins, initializers_begin}, ReadingParts.{ReadsExpression, ReadsPrimary, ReadsArguments, ReadsList, ReadsInitializer, ReadsElements, ReadsInitializers, primary_expression, prefix_expression, binary_expression}, ReadingLists.{one_list, more_list, empty_arguments, some_arguments, expression_initializer, elements_initializer, one_element, more_elements, empty_elements, some_elements}, ReadingPrimaries.{alone_primary, name_primary, address_primary, test_primary, member_primary, type_member_primary, with_member_primary, invocation_primary, creation_primary, creation_with_primary, array_primary, bounded_array_primary, parenthesized_primary, conversion_primary, cast_primary, conditional_primary}}
 
 module _ (goal : Goal) where
   mutual

@@ -1,12 +1,8 @@
 -- With which tokens a primary begins.
 use Rattle.std.proofs.Common.{◌≡◌, ℕ, Bool, true, false, ◌||◌, List, ◌∷◌, ◌++◌, take, drop, Option, Some, is_some, refl, ap, sym, ◌∙◌}
 use Rattle.std.proofs.lemmas.List.{take-append-drop}
-use Rattle.vb_syntax.specs.declared.tokens.Token.{Token}
-use Rattle.vb_syntax.specs.declared.expression.Expr.{Expr}
-use Rattle.vb_parse_expr.specs.Words.{name_of, type_of, alone_of, primitive_cast, cast_operator}
-use Rattle.vb_parse_expr.specs.Expressions.{Edge, SpellsPrimary, alone, parenthesized, name, address, type_test, member, type_member}
-use Rattle.vb_parse_expr.specs.Expressions.{with_member, invocation, creation, creation_with, array, bounded_array, conversion, cast, conditional}
-use Rattle.vb_parse_expr.specs.Fronts.{IsPrimaryFront, begins_primary}
+use Rattle.vb_syntax.specs.declared.{tokens.Token.Token, expression.Expr.Expr}
+use Rattle.vb_parse_expr.specs.{Words.{name_of, type_of, alone_of, primitive_cast, cast_operator}, Expressions.{Edge, SpellsPrimary, alone, parenthesized, name, address, type_test, member, type_member, with_member, invocation, creation, creation_with, array, bounded_array, conversion, cast, conditional}, Fronts.{IsPrimaryFront, begins_primary}}
 
 -- the first token begins a primary
 pub record Begins (ts : List Token) : Type 0 where

@@ -1,28 +1,16 @@
 -- What a step of the reading does behind an operand, and behind elements in braces.
 use Rattle.std.proofs.Common.{◌≡◌, ℕ, Bool, true, false, ◌||◌, List, [], ◌∷◌, ◌++◌, length, Option, Some, None, is_some, refl, ap, ◌∙◌}
 use Rattle.vb_text.specs.declared.names.Name.{Name}
-use Rattle.vb_syntax.specs.declared.keyword.Keyword.{Keyword}
+use Rattle.vb_syntax.specs.declared.{keyword.Keyword.Keyword, symbol.Symbol.Symbol, tokens.Token.Token, types.TypeName.TypeName, expression.{BinaryOperator.BinaryOperator, Expr.Expr, VariableInitializer.VariableInitializer}}
 use Rattle.vb_syntax.specs.declared.keyword.Keyword.TheVariants as word
-use Rattle.vb_syntax.specs.declared.symbol.Symbol.{Symbol}
 use Rattle.vb_syntax.specs.declared.symbol.Symbol.TheVariants as sign
-use Rattle.vb_syntax.specs.declared.tokens.Token.{Token}
 use Rattle.vb_syntax.specs.declared.tokens.Token.TheVariants as token
-use Rattle.vb_syntax.specs.declared.types.TypeName.{TypeName}
-use Rattle.vb_syntax.specs.declared.expression.BinaryOperator.{BinaryOperator}
-use Rattle.vb_syntax.specs.declared.expression.Expr.{Expr}
 use Rattle.vb_syntax.specs.declared.expression.Expr.TheVariants as expr
-use Rattle.vb_syntax.specs.declared.expression.VariableInitializer.{VariableInitializer}
 use Rattle.vb_syntax.specs.declared.expression.VariableInitializer.TheVariants as init
-use Rattle.vb_parse_expr.specs.declared.pending.Pending.{Pending}
+use Rattle.vb_parse_expr.specs.{declared.pending.{Pending.Pending, Goal.Goal}, Words.{opening, closing, dot, name_of, sign_between, operator_of}, Fronts.{goes_on_primary, goes_on_operator, goes_on}, Reading.{after_opening, after_closing, after_opening_brace, after_dot, after_is}, TypeReading.{and_then, popped, name_at, read_name, read_type_arguments, read_type}, MachineReading.{last_wants_primary, wants_primary, called, primary, behind_at, behind_primary, operator_at, operator_first, operand_at, operand, joined, closed_off, settled, weakest, close_at, close, close_with, braces_at, braces, element, step}}
 use Rattle.vb_parse_expr.specs.declared.pending.Pending.TheVariants as wait
-use Rattle.vb_parse_expr.specs.declared.pending.Goal.{Goal}
 use Rattle.vb_parse_expr.specs.declared.pending.Goal.TheVariants as for
 use Rattle.vb_parse_expr.specs.declared.machine.State.TheVariants as at
-use Rattle.vb_parse_expr.specs.Words.{opening, closing, dot, name_of, sign_between, operator_of}
-use Rattle.vb_parse_expr.specs.Fronts.{goes_on_primary, goes_on_operator, goes_on}
-use Rattle.vb_parse_expr.specs.Reading.{after_opening, after_closing, after_opening_brace, after_dot, after_is}
-use Rattle.vb_parse_expr.specs.TypeReading.{and_then, popped, name_at, read_name, read_type_arguments, read_type}
-use Rattle.vb_parse_expr.specs.MachineReading.{last_wants_primary, wants_primary, called, primary, behind_at, behind_primary, operator_at, operator_first, operand_at, operand, joined, closed_off, settled, weakest, close_at, close, close_with, braces_at, braces, element, step}
 use Rattle.vb_parse_expr.proofs.Lists.{popped_append}
 
 -- what is left of an operand when an operator of strength s ends those before it

@@ -1,31 +1,15 @@
 -- Behind an element, and behind an expression that is over.
 use Rattle.std.proofs.Common.{◌≡◌, ℕ, true, false, List, [], ◌∷◌, ◌++◌, Option, Some, None, refl, ap, sym, subst, ◌∙◌, append_assoc}
 use Rattle.vb_syntax.specs.declared.keyword.Keyword.TheVariants as word
-use Rattle.vb_syntax.specs.declared.tokens.Token.{Token}
+use Rattle.vb_syntax.specs.declared.{tokens.Token.Token, types.{SimpleTypeName.SimpleTypeName, TypeName.TypeName}, expression.{CastOperator.CastOperator, Expr.Expr, VariableInitializer.VariableInitializer}}
 use Rattle.vb_syntax.specs.declared.tokens.Token.TheVariants as token
-use Rattle.vb_syntax.specs.declared.types.SimpleTypeName.{SimpleTypeName}
-use Rattle.vb_syntax.specs.declared.types.TypeName.{TypeName}
-use Rattle.vb_syntax.specs.declared.expression.CastOperator.{CastOperator}
-use Rattle.vb_syntax.specs.declared.expression.Expr.{Expr}
 use Rattle.vb_syntax.specs.declared.expression.Expr.TheVariants as e
-use Rattle.vb_syntax.specs.declared.expression.VariableInitializer.{VariableInitializer}
 use Rattle.vb_syntax.specs.declared.expression.VariableInitializer.TheVariants as init
-use Rattle.vb_parse_expr.specs.declared.pending.Pending.{Pending}
+use Rattle.vb_parse_expr.specs.{declared.pending.{Pending.Pending, Goal.Goal}, Words.{opening, closing, opening_brace, closing_brace, comma, cast_operator}, Expressions.{closed, takes_arguments, Spells, SpellsPrimary, parenthesized, invocation, conversion, cast, conditional, arguments, SpellsInitializer, expression, elements, SpellsElements, braces}, Fronts.goes_on, Reading.{after_closing, after_closing_brace, after_comma}, TypeReading.{Read, and_then, behind, popped, read_type}}
 use Rattle.vb_parse_expr.specs.declared.pending.Pending.TheVariants as wait
-use Rattle.vb_parse_expr.specs.declared.pending.Goal.{Goal}
 use Rattle.vb_parse_expr.specs.declared.pending.Goal.TheVariants as for
-use Rattle.vb_parse_expr.specs.Words.{opening, closing, opening_brace, closing_brace, comma, cast_operator}
-use Rattle.vb_parse_expr.specs.Expressions.{closed, takes_arguments, Spells, SpellsPrimary, parenthesized, invocation, conversion, cast, conditional, arguments, SpellsInitializer, expression, elements, SpellsElements, braces}
-use Rattle.vb_parse_expr.specs.Fronts.{goes_on}
-use Rattle.vb_parse_expr.specs.Reading.{after_closing, after_closing_brace, after_comma}
-use Rattle.vb_parse_expr.specs.TypeReading.{Read, and_then, behind, popped, read_type}
 use Rattle.vb_parse_expr.specs.MachineReading as machine
-use Rattle.vb_parse_expr.proofs.FirstTokens.{closing_first, closing_brace_first, comma_first}
-use Rattle.vb_parse_expr.proofs.TypeFronts.{FoundType, type_found}
-use Rattle.vb_parse_expr.proofs.Waiting.{IsReadFrom, IsPlaced, Wanting, HasBraces, Ended, expression_ends, elements_end, Keeps, CallBegun, CreationBegun, ThenBegun, ElseBegun, NewElementsBegun, BracesBegun, is_for_primary}
-use Rattle.vb_parse_expr.proofs.Settling.{none_waits, HasOperand}
-use Rattle.vb_parse_expr.proofs.States.{closed_ready, list_longer, list_whole, elements_longer, elements_whole, back, waiting_from, primary_from, braces_from}
-use Rattle.vb_parse_expr.proofs.Creations.{created_keeps}
+use Rattle.vb_parse_expr.proofs.{FirstTokens.{closing_first, closing_brace_first, comma_first}, TypeFronts.{FoundType, type_found}, Waiting.{IsReadFrom, IsPlaced, Wanting, HasBraces, Ended, expression_ends, elements_end, Keeps, CallBegun, CreationBegun, ThenBegun, ElseBegun, NewElementsBegun, BracesBegun, is_for_primary}, Settling.{none_waits, HasOperand}, States.{closed_ready, list_longer, list_whole, elements_longer, elements_whole, back, waiting_from, primary_from, braces_from}, Creations.created_keeps}
 
 -- tokens that were taken off again, before a part and what stands behind it
 pub again : {taken front ts us : List Token} (part : List Token) → taken ≡ front → ts ≡ us → taken ++ (part ++ ts) ≡ front ++ (part ++ us)

@@ -1,22 +1,11 @@
 -- The reading of expressions finds what is spelled at the front, wherever it is.
 use Rattle.std.proofs.Common.{◌≡◌, ℕ, ◌*◌, ◌<◌, ◌≤◌, true, false, List, [], ◌++◌, length, Some, refl, ap, ◌∙◌, arith}
-use Rattle.vb_syntax.specs.declared.tokens.Token.{Token}
-use Rattle.vb_syntax.specs.declared.expression.Expr.{Expr}
-use Rattle.vb_syntax.specs.declared.expression.VariableInitializer.{VariableInitializer}
+use Rattle.vb_syntax.specs.declared.{tokens.Token.Token, expression.{Expr.Expr, VariableInitializer.VariableInitializer}}
 use Rattle.vb_syntax.specs.declared.expression.VariableInitializer.TheVariants as init
-use Rattle.vb_parse_expr.specs.declared.pending.Goal.{Goal}
+use Rattle.vb_parse_expr.specs.{declared.pending.Goal.Goal, Expressions.{Edge, Spells, SpellsPrimary, SpellsInitializer}, Fronts.{goes_on, goes_on_primary, goes_on_initializer}, TypeReading.{most_turns, most_tokens, popped}, MachineReading.{wants_primary, wants_element, behind_primary, closed_off, run}}
 use Rattle.vb_parse_expr.specs.declared.pending.Goal.TheVariants as for
 use Rattle.vb_parse_expr.specs.declared.machine.State.TheVariants as at
-use Rattle.vb_parse_expr.specs.Expressions.{Edge, Spells, SpellsPrimary, SpellsInitializer}
-use Rattle.vb_parse_expr.specs.Fronts.{goes_on, goes_on_primary, goes_on_initializer}
-use Rattle.vb_parse_expr.specs.TypeReading.{most_turns, most_tokens}
-use Rattle.vb_parse_expr.specs.TypeReading.{popped}
-use Rattle.vb_parse_expr.specs.MachineReading.{wants_primary, wants_element, behind_primary, closed_off, run}
-use Rattle.vb_parse_expr.proofs.Reaches.{ends}
-use Rattle.vb_parse_expr.proofs.Behind.{over_step, operand_behind, operand_over, primary_over, operator_ends, close_none, braces_none}
-use Rattle.vb_parse_expr.proofs.Holding.{holds_nothing, last_ending}
-use Rattle.vb_parse_expr.proofs.Edges.{over_end}
-use Rattle.vb_parse_expr.proofs.AllReadings.{expression_reads, primary_reads, elements_read}
+use Rattle.vb_parse_expr.proofs.{Reaches.ends, Behind.{over_step, operand_behind, operand_over, primary_over, operator_ends, close_none, braces_none}, Holding.{holds_nothing, last_ending}, Edges.over_end, AllReadings.{expression_reads, primary_reads, elements_read}}
 
 -- there are turns enough for all tokens of a slice
 enough : (ts : List Token) → length ts ≤ most_tokens → 2 * length ts < most_turns

@@ -1,24 +1,13 @@
 -- New objects and new arrays.
 use Rattle.std.proofs.Common.{◌≡◌, ℕ, Bool, false, List, [], ◌∷◌, ◌++◌, Option, Some, None, refl, ap, sym, subst, ◌∙◌, append_assoc}
 use Rattle.vb_syntax.specs.declared.keyword.Keyword.TheVariants as word
-use Rattle.vb_syntax.specs.declared.tokens.Token.{Token}
+use Rattle.vb_syntax.specs.declared.{tokens.Token.Token, types.SimpleTypeName.SimpleTypeName, expression.Expr.Expr}
 use Rattle.vb_syntax.specs.declared.tokens.Token.TheVariants as token
-use Rattle.vb_syntax.specs.declared.types.SimpleTypeName.{SimpleTypeName}
-use Rattle.vb_syntax.specs.declared.expression.Expr.{Expr}
 use Rattle.vb_syntax.specs.declared.expression.Expr.TheVariants as e
-use Rattle.vb_parse_expr.specs.declared.pending.Pending.{Pending}
+use Rattle.vb_parse_expr.specs.{declared.pending.{Pending.Pending, Goal.Goal}, Words.{opening, closing, opening_brace, closing_brace}, Types.{SpellsSimpleType, goes_on_type}, Expressions.{closed, created, Spells, SpellsPrimary, creation, creation_with, array, bounded_array, SpellsArguments, no_arguments, arguments, SpellsList, one, more, no_elements}, Reading.{after_opening, after_closing, after_opening_brace, after_closing_brace}, TypeReading.{Read, and_then, read_simple_type}}
 use Rattle.vb_parse_expr.specs.declared.pending.Pending.TheVariants as wait
-use Rattle.vb_parse_expr.specs.declared.pending.Goal.{Goal}
-use Rattle.vb_parse_expr.specs.Words.{opening, closing, opening_brace, closing_brace}
-use Rattle.vb_parse_expr.specs.Types.{SpellsSimpleType, goes_on_type}
-use Rattle.vb_parse_expr.specs.Expressions.{closed, created, Spells, SpellsPrimary, creation, creation_with, array, bounded_array, SpellsArguments, no_arguments, arguments, SpellsList, one, more, no_elements}
-use Rattle.vb_parse_expr.specs.Reading.{after_opening, after_closing, after_opening_brace, after_closing_brace}
-use Rattle.vb_parse_expr.specs.TypeReading.{Read, and_then, read_simple_type}
 use Rattle.vb_parse_expr.specs.MachineReading as machine
-use Rattle.vb_parse_expr.proofs.FirstTokens.{opening_first, closing_first, opening_brace_first, closing_brace_first}
-use Rattle.vb_parse_expr.proofs.TypeFronts.{FoundSimpleType, simple_type_found}
-use Rattle.vb_parse_expr.proofs.Waiting.{Wanting, Keeps, ArrayBegun}
-use Rattle.vb_parse_expr.proofs.States.{closed_ready, created_ready, list_empty, elements_empty, waiting_from, primary_from}
+use Rattle.vb_parse_expr.proofs.{FirstTokens.{opening_first, closing_first, opening_brace_first, closing_brace_first}, TypeFronts.{FoundSimpleType, simple_type_found}, Waiting.{Wanting, Keeps, ArrayBegun}, States.{closed_ready, created_ready, list_empty, elements_empty, waiting_from, primary_from}}
 
 -- `New`, a type and arguments in parentheses
 pub record Called (a : SimpleTypeName) (xs : List Expr) (ts : List Token) : Type 0 where

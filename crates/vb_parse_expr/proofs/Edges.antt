@@ -1,17 +1,10 @@
 -- Where a primary ends: what stands behind it doesn't go on with its last part.
 use Rattle.std.proofs.Common.{◌≡◌, Bool, true, false, ◌&&◌, ◌||◌, List, [], ◌∷◌, Option, Some, None, is_some, refl, ap, ◌∙◌}
-use Rattle.vb_syntax.specs.declared.symbol.Symbol.{Symbol}
+use Rattle.vb_syntax.specs.declared.{symbol.Symbol.Symbol, tokens.Token.Token, expression.Expr.Expr}
 use Rattle.vb_syntax.specs.declared.symbol.Symbol.TheVariants as sign
-use Rattle.vb_syntax.specs.declared.tokens.Token.{Token}
 use Rattle.vb_syntax.specs.declared.tokens.Token.TheVariants as token
-use Rattle.vb_syntax.specs.declared.expression.Expr.{Expr}
-use Rattle.vb_parse_expr.specs.Words.{opening, closing, dot}
-use Rattle.vb_parse_expr.specs.Types.{goes_on_name, goes_on_array, goes_on_type}
-use Rattle.vb_parse_expr.specs.Expressions.{Edge, closed, operand, created, tested, takes_member, takes_arguments}
-use Rattle.vb_parse_expr.specs.Fronts.{goes_on_primary}
-use Rattle.vb_parse_expr.specs.Reading.{after_opening, after_opening_brace}
-use Rattle.vb_parse_expr.proofs.TypeFronts.{begins_arguments}
-use Rattle.vb_parse_expr.proofs.Firsts.{Begins, no_of, no_array, no_name}
+use Rattle.vb_parse_expr.specs.{Words.{opening, closing, dot}, Types.{goes_on_name, goes_on_array, goes_on_type}, Expressions.{Edge, closed, operand, created, tested, takes_member, takes_arguments}, Fronts.goes_on_primary, Reading.{after_opening, after_opening_brace}}
+use Rattle.vb_parse_expr.proofs.{TypeFronts.begins_arguments, Firsts.{Begins, no_of, no_array, no_name}}
 
 -- the last part of the primary takes what stands first
 abbrev pub takes_first : Edge → List Token → Bool

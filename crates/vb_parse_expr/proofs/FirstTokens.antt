@@ -3,14 +3,9 @@ use Rattle.std.proofs.Common.{◌≡◌, ℕ, false, List, [], ◌∷◌, Option
 use Rattle.vb_text.specs.declared.names.Name.{Name}
 use Rattle.vb_syntax.specs.declared.keyword.Keyword.TheVariants as word
 use Rattle.vb_syntax.specs.declared.symbol.Symbol.TheVariants as sign
-use Rattle.vb_syntax.specs.declared.tokens.Token.{Token}
+use Rattle.vb_syntax.specs.declared.{tokens.Token.Token, expression.BinaryOperator.BinaryOperator}
 use Rattle.vb_syntax.specs.declared.tokens.Token.TheVariants as token
-use Rattle.vb_syntax.specs.declared.expression.BinaryOperator.{BinaryOperator}
-use Rattle.vb_parse_expr.specs.Words.{opening, closing, opening_brace, closing_brace, comma, dot, name_of, operator_of}
-use Rattle.vb_parse_expr.specs.Fronts.{goes_on_primary, goes_on_operator, goes_on}
-use Rattle.vb_parse_expr.specs.Reading.{after_opening, after_closing, after_opening_brace, after_closing_brace, after_comma, after_dot, after_is}
-use Rattle.vb_parse_expr.specs.TypeReading.{name_at, read_name}
-use Rattle.vb_parse_expr.specs.MachineReading.{operator_at, operator_first}
+use Rattle.vb_parse_expr.specs.{Words.{opening, closing, opening_brace, closing_brace, comma, dot, name_of, operator_of}, Fronts.{goes_on_primary, goes_on_operator, goes_on}, Reading.{after_opening, after_closing, after_opening_brace, after_closing_brace, after_comma, after_dot, after_is}, TypeReading.{name_at, read_name}, MachineReading.{operator_at, operator_first}}
 
 -- A TOKEN THAT STANDS FIRST
 

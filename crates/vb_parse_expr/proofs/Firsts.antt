@@ -1,24 +1,12 @@
 -- The first token of an expression is none that closes a bracket, and isn't the word Of.
 use Rattle.std.proofs.Common.{◌≡◌, ℕ, ◌<◌, Bool, true, false, List, [], ◌∷◌, ◌++◌, length, Some, None, refl, ap, ◌∙◌, arith}
 use Rattle.vb_text.specs.declared.names.Name.{Name}
-use Rattle.vb_syntax.specs.declared.keyword.Keyword.{Keyword}
+use Rattle.vb_syntax.specs.declared.{keyword.Keyword.Keyword, symbol.Symbol.Symbol, tokens.Token.Token, types.{PrimitiveTypeName.PrimitiveTypeName, BuiltInTypeName.BuiltInTypeName}, expression.{UnaryOperator.UnaryOperator, CastOperator.CastOperator, Expr.Expr, VariableInitializer.VariableInitializer}}
 use Rattle.vb_syntax.specs.declared.keyword.Keyword.TheVariants as word
-use Rattle.vb_syntax.specs.declared.symbol.Symbol.{Symbol}
 use Rattle.vb_syntax.specs.declared.symbol.Symbol.TheVariants as sign
-use Rattle.vb_syntax.specs.declared.tokens.Token.{Token}
 use Rattle.vb_syntax.specs.declared.tokens.Token.TheVariants as token
-use Rattle.vb_syntax.specs.declared.types.PrimitiveTypeName.{PrimitiveTypeName}
-use Rattle.vb_syntax.specs.declared.types.BuiltInTypeName.{BuiltInTypeName}
-use Rattle.vb_syntax.specs.declared.expression.UnaryOperator.{UnaryOperator}
-use Rattle.vb_syntax.specs.declared.expression.CastOperator.{CastOperator}
-use Rattle.vb_syntax.specs.declared.expression.Expr.{Expr}
-use Rattle.vb_syntax.specs.declared.expression.VariableInitializer.{VariableInitializer}
-use Rattle.vb_parse_expr.specs.Words.{opening, closing, opening_brace, closing_brace, comma, dot, name_of, word_type, type_of, word_alone, alone_of, word_cast, primitive_cast, word_cast_operator, cast_operator, prefix_of}
-use Rattle.vb_parse_expr.specs.Types.{goes_on_name, goes_on_array}
-use Rattle.vb_parse_expr.specs.Expressions.{Edge, Spells, SpellsPrimary, SpellsList, SpellsInitializer, SpellsElements, SpellsInitializers}
-use Rattle.vb_parse_expr.specs.Reading.{after_closing, after_closing_brace}
-use Rattle.vb_parse_expr.proofs.TypeFronts.{begins_arguments}
-use Rattle.vb_parse_expr.proofs.Steps.{nothing_is_some}
+use Rattle.vb_parse_expr.specs.{Words.{opening, closing, opening_brace, closing_brace, comma, dot, name_of, word_type, type_of, word_alone, alone_of, word_cast, primitive_cast, word_cast_operator, cast_operator, prefix_of}, Types.{goes_on_name, goes_on_array}, Expressions.{Edge, Spells, SpellsPrimary, SpellsList, SpellsInitializer, SpellsElements, SpellsInitializers}, Reading.{after_closing, after_closing_brace}}
+use Rattle.vb_parse_expr.proofs.{TypeFronts.begins_arguments, Steps.nothing_is_some}
 
 -- never the first token of an expression
 abbrev pub never_first : Token → Bool

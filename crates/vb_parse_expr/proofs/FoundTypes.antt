@@ -2,10 +2,8 @@
 use Rattle.std.proofs.Common.{◌≡◌, Bool, true, false, ◌&&◌, List, ◌∷◌, ◌++◌}
 use Rattle.vb_syntax.specs.declared.keyword.Keyword.TheVariants as word
 use Rattle.vb_syntax.specs.declared.symbol.Symbol.TheVariants as sign
-use Rattle.vb_syntax.specs.declared.tokens.Token.{Token}
+use Rattle.vb_syntax.specs.declared.{tokens.Token.Token, types.{SimpleTypeName.SimpleTypeName, TypeName.TypeName}}
 use Rattle.vb_syntax.specs.declared.tokens.Token.TheVariants as token
-use Rattle.vb_syntax.specs.declared.types.SimpleTypeName.{SimpleTypeName}
-use Rattle.vb_syntax.specs.declared.types.TypeName.{TypeName}
 use Rattle.vb_parse_expr.specs.Types.{SpellsType, SpellsSimpleType, SpellsTypeArguments, goes_on_type}
 
 -- `(Of` stands first

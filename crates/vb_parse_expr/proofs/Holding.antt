@@ -1,24 +1,14 @@
 -- Which operators that wait take the operand behind them.
 use Rattle.std.proofs.Common.{◌≡◌, ℕ, suc, ◌<◌, ◌≤◌, nat_lt, ◌==◌, not, ◌&&◌, Bool, true, false, List, [], ◌∷◌, ◌++◌, length, Option, Some, None, if◌then◌else◌, refl, ap, sym, ◌∙◌, arith, length-append}
 use Rattle.std.proofs.lemmas.Bool.Decides.{nat_tests}
-use Rattle.vb_syntax.specs.declared.keyword.Keyword.{Keyword}
+use Rattle.vb_syntax.specs.declared.{keyword.Keyword.Keyword, symbol.Symbol.Symbol, tokens.Token.Token, expression.{UnaryOperator.UnaryOperator, BinaryOperator.BinaryOperator, Expr.Expr}}
 use Rattle.vb_syntax.specs.declared.keyword.Keyword.TheVariants as word
-use Rattle.vb_syntax.specs.declared.symbol.Symbol.{Symbol}
 use Rattle.vb_syntax.specs.declared.symbol.Symbol.TheVariants as sign
-use Rattle.vb_syntax.specs.declared.tokens.Token.{Token}
 use Rattle.vb_syntax.specs.declared.tokens.Token.TheVariants as token
-use Rattle.vb_syntax.specs.declared.expression.UnaryOperator.{UnaryOperator}
-use Rattle.vb_syntax.specs.declared.expression.BinaryOperator.{BinaryOperator}
-use Rattle.vb_syntax.specs.declared.expression.Expr.{Expr}
 use Rattle.vb_syntax.specs.declared.expression.Expr.TheVariants as expr
-use Rattle.vb_parse_expr.specs.declared.pending.Pending.{Pending}
+use Rattle.vb_parse_expr.specs.{declared.pending.{Pending.Pending, Goal.Goal}, Words.{prefix_of, sign_between, word_between, operator_of}, MachineReading.{last_wants_primary, wants_primary, settled_at, settled}}
 use Rattle.vb_parse_expr.specs.declared.pending.Pending.TheVariants as wait
-use Rattle.vb_parse_expr.specs.declared.pending.Goal.{Goal}
-use Rattle.vb_parse_expr.specs.Words.{prefix_of, sign_between, word_between, operator_of}
-use Rattle.vb_parse_expr.specs.MachineReading.{last_wants_primary, wants_primary, settled_at, settled}
-use Rattle.vb_parse_expr.proofs.Lists.{popped_append}
-use Rattle.vb_parse_expr.proofs.Steps.{nothing_is_some, same_some}
-use Rattle.vb_parse_expr.proofs.Behind.{settle}
+use Rattle.vb_parse_expr.proofs.{Lists.popped_append, Steps.{nothing_is_some, same_some}, Behind.settle}
 
 settle_last : (s : ℕ) (ws : List Pending) (p : Pending) (x : Expr)
     → settle s (ws ++ p ∷ []) x ≡ settled_at s (settled s (length ws)) (ws ++ p ∷ []) x (Some (ws, p))

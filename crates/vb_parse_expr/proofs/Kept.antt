@@ -1,17 +1,10 @@
 -- Every step of the reading keeps what is known, up to its end.
 use Rattle.std.proofs.Common.{◌≡◌, ℕ, zero, suc, List, [], Some, None, refl, subst}
-use Rattle.vb_syntax.specs.declared.tokens.Token.{Token}
-use Rattle.vb_syntax.specs.declared.expression.VariableInitializer.{VariableInitializer}
-use Rattle.vb_parse_expr.specs.declared.pending.Pending.{Pending}
-use Rattle.vb_parse_expr.specs.declared.pending.Goal.{Goal}
-use Rattle.vb_parse_expr.specs.declared.machine.State.{State}
+use Rattle.vb_syntax.specs.declared.{tokens.Token.Token, expression.VariableInitializer.VariableInitializer}
+use Rattle.vb_parse_expr.specs.{declared.{pending.{Pending.Pending, Goal.Goal}, machine.State.State}, TypeReading.popped}
 use Rattle.vb_parse_expr.specs.declared.machine.State.TheVariants as at
-use Rattle.vb_parse_expr.specs.TypeReading.{popped}
 use Rattle.vb_parse_expr.specs.MachineReading as machine
-use Rattle.vb_parse_expr.proofs.Waiting.{nothing, Wanting, Ended, Holds, Keeps}
-use Rattle.vb_parse_expr.proofs.Wanting.{want_keeps}
-use Rattle.vb_parse_expr.proofs.Closes.{braces_keep}
-use Rattle.vb_parse_expr.proofs.Primaries.{primary_keeps}
+use Rattle.vb_parse_expr.proofs.{Waiting.{nothing, Wanting, Ended, Holds, Keeps}, Wanting.want_keeps, Closes.braces_keep, Primaries.primary_keeps}
 
 module _ (goal : Goal) (all : List Token) where
   step_keeps : (ws : List Pending) (s : State) (ts : List Token) → Holds goal all ws s ts → Keeps goal all (machine.step goal ws s ts)

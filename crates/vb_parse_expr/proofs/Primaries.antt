@@ -2,30 +2,16 @@
 use Rattle.std.proofs.Common.{◌≡◌, ℕ, false, List, [], ◌∷◌, ◌++◌, length, Option, Some, None, refl, ap, sym, subst, ◌∙◌, append_assoc, arith}
 use Rattle.vb_text.specs.declared.names.Name.{Name}
 use Rattle.vb_syntax.specs.declared.keyword.Keyword.TheVariants as word
-use Rattle.vb_syntax.specs.declared.tokens.Token.{Token}
+use Rattle.vb_syntax.specs.declared.{tokens.Token.Token, types.TypeName.TypeName, expression.{BinaryOperator.BinaryOperator, Expr.Expr}}
 use Rattle.vb_syntax.specs.declared.tokens.Token.TheVariants as token
-use Rattle.vb_syntax.specs.declared.types.TypeName.{TypeName}
-use Rattle.vb_syntax.specs.declared.expression.BinaryOperator.{BinaryOperator}
-use Rattle.vb_syntax.specs.declared.expression.Expr.{Expr}
 use Rattle.vb_syntax.specs.declared.expression.Expr.TheVariants as e
 use Rattle.vb_syntax.specs.declared.expression.VariableInitializer.TheVariants as init
-use Rattle.vb_parse_expr.specs.declared.pending.Pending.{Pending}
+use Rattle.vb_parse_expr.specs.{declared.pending.{Pending.Pending, Goal.Goal}, Words.{opening, closing, dot}, Expressions.{operand, primary, address, type_test, member, invocation, no_arguments}, Fronts.goes_on_primary, Reading.{after_opening, after_closing, after_opening_brace, after_dot, after_is}, TypeReading.{Read, and_then, behind, popped, read_name, read_type, read_type_arguments}}
 use Rattle.vb_parse_expr.specs.declared.pending.Pending.TheVariants as wait
-use Rattle.vb_parse_expr.specs.declared.pending.Goal.{Goal}
 use Rattle.vb_parse_expr.specs.declared.pending.Goal.TheVariants as for
 use Rattle.vb_parse_expr.specs.declared.machine.State.TheVariants as at
-use Rattle.vb_parse_expr.specs.Words.{opening, closing, dot}
-use Rattle.vb_parse_expr.specs.Expressions.{operand, primary, address, type_test, member, invocation, no_arguments}
-use Rattle.vb_parse_expr.specs.Fronts.{goes_on_primary}
-use Rattle.vb_parse_expr.specs.Reading.{after_opening, after_closing, after_opening_brace, after_dot, after_is}
-use Rattle.vb_parse_expr.specs.TypeReading.{Read, and_then, behind, popped, read_name, read_type, read_type_arguments}
 use Rattle.vb_parse_expr.specs.MachineReading as machine
-use Rattle.vb_parse_expr.proofs.FirstTokens.{opening_first, closing_first, dot_first, is_first, name_first, operator_found, no_operator, over_primary, over_both}
-use Rattle.vb_parse_expr.proofs.TypeFronts.{FoundType, type_found, FoundArguments, arguments_found}
-use Rattle.vb_parse_expr.proofs.Waiting.{Wanting, HasPrimary, Ended, primary_ends, Keeps}
-use Rattle.vb_parse_expr.proofs.Settling.{none_waits, zero_holds, HasOperand, Settled, settles}
-use Rattle.vb_parse_expr.proofs.States.{closed_ready, operand_ready, tested_ready, list_empty, back, waiting_from, primary_from}
-use Rattle.vb_parse_expr.proofs.Closes.{close_keeps}
+use Rattle.vb_parse_expr.proofs.{FirstTokens.{opening_first, closing_first, dot_first, is_first, name_first, operator_found, no_operator, over_primary, over_both}, TypeFronts.{FoundType, type_found, FoundArguments, arguments_found}, Waiting.{Wanting, HasPrimary, Ended, primary_ends, Keeps}, Settling.{none_waits, zero_holds, HasOperand, Settled, settles}, States.{closed_ready, operand_ready, tested_ready, list_empty, back, waiting_from, primary_from}, Closes.close_keeps}
 
 -- an operator may stand behind an operand there
 abbrev IsOperatorPlace : Pending → Type 0

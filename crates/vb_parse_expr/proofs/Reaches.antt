@@ -1,12 +1,8 @@
 -- From one state of the reading to another in a count of turns, at most two for each token.
 use Rattle.std.proofs.Common.{◌≡◌, ℕ, suc, ◌+◌, ◌-◌, ◌*◌, ◌<◌, ◌≤◌, List, length, Some, Err, ap, ◌∙◌, arith}
-use Rattle.vb_syntax.specs.declared.tokens.Token.{Token}
-use Rattle.vb_syntax.specs.declared.expression.VariableInitializer.{VariableInitializer}
-use Rattle.vb_parse_expr.specs.declared.pending.Pending.{Pending}
-use Rattle.vb_parse_expr.specs.declared.pending.Goal.{Goal}
-use Rattle.vb_parse_expr.specs.declared.machine.State.{State}
+use Rattle.vb_syntax.specs.declared.{tokens.Token.Token, expression.VariableInitializer.VariableInitializer}
+use Rattle.vb_parse_expr.specs.{declared.{pending.{Pending.Pending, Goal.Goal}, machine.State.State}, MachineReading.{step, run, step_ends, turn_ends, finished}}
 use Rattle.vb_parse_expr.specs.declared.machine.State.TheVariants as at
-use Rattle.vb_parse_expr.specs.MachineReading.{step, run, step_ends, turn_ends, finished}
 
 -- from one state to the other, in so many turns
 pub record Reaches (goal : Goal) (ws : List Pending) (s : State) (ts : List Token) (ws' : List Pending) (s' : State) (ts' : List Token) : Type 0 where

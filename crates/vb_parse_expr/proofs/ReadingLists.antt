@@ -1,28 +1,12 @@
 -- Arguments in parentheses and elements in braces are read.
 use Rattle.std.proofs.Common.{◌≡◌, ℕ, ◌≤◌, true, false, List, [], ◌∷◌, ◌++◌, length, Option, Some, None, Err, refl, ap, sym, ◌∙◌, subst, arith, append_assoc, length-append}
-use Rattle.vb_syntax.specs.declared.tokens.Token.{Token}
-use Rattle.vb_syntax.specs.declared.types.SimpleTypeName.{SimpleTypeName}
-use Rattle.vb_syntax.specs.declared.expression.Expr.{Expr}
+use Rattle.vb_syntax.specs.declared.{tokens.Token.Token, types.SimpleTypeName.SimpleTypeName, expression.{Expr.Expr, VariableInitializer.VariableInitializer}}
 use Rattle.vb_syntax.specs.declared.expression.Expr.TheVariants as expr
-use Rattle.vb_syntax.specs.declared.expression.VariableInitializer.{VariableInitializer}
 use Rattle.vb_syntax.specs.declared.expression.VariableInitializer.TheVariants as init
-use Rattle.vb_parse_expr.specs.declared.pending.Pending.{Pending}
+use Rattle.vb_parse_expr.specs.{declared.pending.{Pending.Pending, Goal.Goal}, Words.{opening, closing, opening_brace, closing_brace, comma}, Expressions.{Edge, takes_arguments, SpellsList}, Reading.{after_opening, after_closing, after_opening_brace, after_closing_brace, after_comma}, TypeReading.most_tokens, MachineReading.{last_wants_element, wants_element, elements_at, elements, array_at, array_or_not, bound_of, created_at, created, arguments_or_created, creation_at, close_with, element, finished}}
 use Rattle.vb_parse_expr.specs.declared.pending.Pending.TheVariants as wait
-use Rattle.vb_parse_expr.specs.declared.pending.Goal.{Goal}
 use Rattle.vb_parse_expr.specs.declared.machine.State.TheVariants as at
-use Rattle.vb_parse_expr.specs.Words.{opening, closing, opening_brace, closing_brace, comma}
-use Rattle.vb_parse_expr.specs.Expressions.{Edge, takes_arguments, SpellsList}
-use Rattle.vb_parse_expr.specs.Reading.{after_opening, after_closing, after_opening_brace, after_closing_brace, after_comma}
-use Rattle.vb_parse_expr.specs.TypeReading.{most_tokens}
-use Rattle.vb_parse_expr.specs.MachineReading.{last_wants_element, wants_element, elements_at, elements, array_at, array_or_not, bound_of, created_at, created, arguments_or_created, creation_at, close_with, element, finished}
-use Rattle.vb_parse_expr.proofs.Lists.{popped_append}
-use Rattle.vb_parse_expr.proofs.Reaches.{Reaches, nothing, then, one_step}
-use Rattle.vb_parse_expr.proofs.Steps.{brace_step}
-use Rattle.vb_parse_expr.proofs.Behind.{empty_call_step, call_step, braces_last}
-use Rattle.vb_parse_expr.proofs.Holding.{is_bracket}
-use Rattle.vb_parse_expr.proofs.Firsts.{Begins, begins_behind, no_closing, no_closing_brace, list_begins}
-use Rattle.vb_parse_expr.proofs.Edges.{Over, over_empty, over_list, opening_over_type, empty_over_type}
-use Rattle.vb_parse_expr.proofs.ReadingParts.{from_same, Leads, ReadsExpression, Listing, call, new, waiting, listed, ReadsList, ReadsArguments, Braced, array, nested, held, braced, ReadsInitializer, ReadsInitializers, ReadsElements, bracketed}
+use Rattle.vb_parse_expr.proofs.{Lists.popped_append, Reaches.{Reaches, nothing, then, one_step}, Steps.brace_step, Behind.{empty_call_step, call_step, braces_last}, Holding.is_bracket, Firsts.{Begins, begins_behind, no_closing, no_closing_brace, list_begins}, Edges.{Over, over_empty, over_list, opening_over_type, empty_over_type}, ReadingParts.{from_same, Leads, ReadsExpression, Listing, call, new, waiting, listed, ReadsList, ReadsArguments, Braced, array, nested, held, braced, ReadsInitializer, ReadsInitializers, ReadsElements, bracketed}}
 
 -- ARGUMENTS
 

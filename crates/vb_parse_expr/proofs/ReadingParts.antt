@@ -1,29 +1,11 @@
 -- What it means that the reading takes the tokens of an expression, or of a part of one, whatever waits for it.
 use Rattle.std.proofs.Common.{◌≡◌, ℕ, ◌<◌, ◌≤◌, max, Bool, true, false, List, [], ◌∷◌, ◌++◌, length, Option, Some, None, Err, refl, ap, sym, ◌∙◌, subst, arith, append_assoc, length-append}
-use Rattle.vb_syntax.specs.declared.tokens.Token.{Token}
-use Rattle.vb_syntax.specs.declared.types.SimpleTypeName.{SimpleTypeName}
-use Rattle.vb_syntax.specs.declared.expression.UnaryOperator.{UnaryOperator}
-use Rattle.vb_syntax.specs.declared.expression.BinaryOperator.{BinaryOperator}
-use Rattle.vb_syntax.specs.declared.expression.Expr.{Expr}
+use Rattle.vb_syntax.specs.declared.{tokens.Token.Token, types.SimpleTypeName.SimpleTypeName, expression.{UnaryOperator.UnaryOperator, BinaryOperator.BinaryOperator, Expr.Expr, VariableInitializer.VariableInitializer}}
 use Rattle.vb_syntax.specs.declared.expression.Expr.TheVariants as expr
-use Rattle.vb_syntax.specs.declared.expression.VariableInitializer.{VariableInitializer}
-use Rattle.vb_parse_expr.specs.declared.pending.Pending.{Pending}
+use Rattle.vb_parse_expr.specs.{declared.{pending.{Pending.Pending, Goal.Goal}, machine.State.State}, Words.{closing, closing_brace, prefix_of, operator_of}, Types.goes_on_type, Expressions.{Edge, takes_arguments}, Fronts.{goes_on_primary, goes_on}, Reading.{after_opening, after_opening_brace}, TypeReading.most_tokens, MachineReading.{Step, wants_primary, wants_element, bound_of, created, creation_at, joined, closed_off, close_with, element, finished, step}}
 use Rattle.vb_parse_expr.specs.declared.pending.Pending.TheVariants as wait
-use Rattle.vb_parse_expr.specs.declared.pending.Goal.{Goal}
-use Rattle.vb_parse_expr.specs.declared.machine.State.{State}
 use Rattle.vb_parse_expr.specs.declared.machine.State.TheVariants as at
-use Rattle.vb_parse_expr.specs.Words.{closing, closing_brace, prefix_of, operator_of}
-use Rattle.vb_parse_expr.specs.Types.{goes_on_type}
-use Rattle.vb_parse_expr.specs.Expressions.{Edge, takes_arguments}
-use Rattle.vb_parse_expr.specs.Fronts.{goes_on_primary, goes_on}
-use Rattle.vb_parse_expr.specs.Reading.{after_opening, after_opening_brace}
-use Rattle.vb_parse_expr.specs.TypeReading.{most_tokens}
-use Rattle.vb_parse_expr.specs.MachineReading.{Step, wants_primary, wants_element, bound_of, created, creation_at, joined, closed_off, close_with, element, finished, step}
-use Rattle.vb_parse_expr.proofs.Reaches.{Reaches, then, one_step}
-use Rattle.vb_parse_expr.proofs.Steps.{prefix_step}
-use Rattle.vb_parse_expr.proofs.Behind.{settle, over_step, operand_behind, operator_behind, operand_over, operator_over, primary_over, operator_ends, close_last}
-use Rattle.vb_parse_expr.proofs.Holding.{Holds, holds_before, holds_between, holds_weaker, holds_bracket, is_bracket, bracket_open, before_open, between_open, IsEnding, operator_ending, below_ending, prefix_strength, last_ending, settle_before, settle_between}
-use Rattle.vb_parse_expr.proofs.Edges.{Over, over_end}
+use Rattle.vb_parse_expr.proofs.{Reaches.{Reaches, then, one_step}, Steps.prefix_step, Behind.{settle, over_step, operand_behind, operator_behind, operand_over, operator_over, primary_over, operator_ends, close_last}, Holding.{Holds, holds_before, holds_between, holds_weaker, holds_bracket, is_bracket, bracket_open, before_open, between_open, IsEnding, operator_ending, below_ending, prefix_strength, last_ending, settle_before, settle_between}, Edges.{Over, over_end}}
 
 pub from_same : {goal : Goal} {ws ws' : List Pending} {s s' : State} {ts us ts' : List Token} → us ≡ ts
     → Reaches goal ws s ts ws' s' ts' → Reaches goal ws s us ws' s' ts'

@@ -2,35 +2,13 @@
 use Rattle.std.proofs.Common.{◌≡◌, ℕ, ◌≤◌, Bool, false, List, [], ◌∷◌, ◌++◌, length, Some, None, refl, ap, ◌∙◌, arith, append_assoc, length-append}
 use Rattle.vb_text.specs.declared.names.Name.{Name}
 use Rattle.vb_syntax.specs.declared.keyword.Keyword.TheVariants as word
-use Rattle.vb_syntax.specs.declared.tokens.Token.{Token}
+use Rattle.vb_syntax.specs.declared.{tokens.Token.Token, types.{PrimitiveTypeName.PrimitiveTypeName, BuiltInTypeName.BuiltInTypeName, SimpleTypeName.SimpleTypeName, TypeName.TypeName}, expression.{CastOperator.CastOperator, Expr.Expr, VariableInitializer.VariableInitializer}}
 use Rattle.vb_syntax.specs.declared.tokens.Token.TheVariants as token
-use Rattle.vb_syntax.specs.declared.types.PrimitiveTypeName.{PrimitiveTypeName}
-use Rattle.vb_syntax.specs.declared.types.BuiltInTypeName.{BuiltInTypeName}
-use Rattle.vb_syntax.specs.declared.types.SimpleTypeName.{SimpleTypeName}
-use Rattle.vb_syntax.specs.declared.types.TypeName.{TypeName}
-use Rattle.vb_syntax.specs.declared.expression.CastOperator.{CastOperator}
-use Rattle.vb_syntax.specs.declared.expression.Expr.{Expr}
 use Rattle.vb_syntax.specs.declared.expression.Expr.TheVariants as expr
-use Rattle.vb_syntax.specs.declared.expression.VariableInitializer.{VariableInitializer}
-use Rattle.vb_parse_expr.specs.declared.pending.Pending.{Pending}
+use Rattle.vb_parse_expr.specs.{declared.{pending.{Pending.Pending, Goal.Goal}, machine.State.State}, Words.{opening, closing, comma, dot, name_of, type_of, alone_of, primitive_cast, cast_operator}, Types.{SpellsType, SpellsSimpleType, SpellsTypeArguments, goes_on_type}, Expressions.{Edge, closed, operand, created, tested, takes_member, takes_arguments}, Reading.{after_opening, after_closing, after_comma}, TypeReading.{and_then, most_tokens, read_type}, MachineReading.{created as spec_created, creation_at, closed_as, close_with}}
 use Rattle.vb_parse_expr.specs.declared.pending.Pending.TheVariants as wait
-use Rattle.vb_parse_expr.specs.declared.pending.Goal.{Goal}
-use Rattle.vb_parse_expr.specs.declared.machine.State.{State}
 use Rattle.vb_parse_expr.specs.declared.machine.State.TheVariants as at
-use Rattle.vb_parse_expr.specs.Words.{opening, closing, comma, dot, name_of, type_of, alone_of, primitive_cast, cast_operator}
-use Rattle.vb_parse_expr.specs.Types.{SpellsType, SpellsSimpleType, SpellsTypeArguments, goes_on_type}
-use Rattle.vb_parse_expr.specs.Expressions.{Edge, closed, operand, created, tested, takes_member, takes_arguments}
-use Rattle.vb_parse_expr.specs.Reading.{after_opening, after_closing, after_comma}
-use Rattle.vb_parse_expr.specs.TypeReading.{and_then, most_tokens, read_type}
-use Rattle.vb_parse_expr.specs.MachineReading.{created as spec_created, creation_at, closed_as, close_with}
-use Rattle.vb_parse_expr.proofs.TypeFronts.{type_read, simple_type_read, arguments_read}
-use Rattle.vb_parse_expr.proofs.Reaches.{Reaches, then, one_step, around}
-use Rattle.vb_parse_expr.proofs.Steps.{alone_step, opening_step, name_step, address_step, test_step, member_step, new_step, type_member_step, conversion_step, cast_step, if_step}
-use Rattle.vb_parse_expr.proofs.Behind.{member_behind_step, address_behind, test_behind}
-use Rattle.vb_parse_expr.proofs.Firsts.{Begins, begins_behind, no_closing}
-use Rattle.vb_parse_expr.proofs.Edges.{over_dot, over_end, over_type, over_created_type, over_created, over_operand, over_arguments, either_false, opening_over_type, empty_over_type}
-use Rattle.vb_parse_expr.proofs.ReadingParts.{from_same, Leads, leads, ReadsExpression, ReadsPrimary, new, ReadsArguments, ReadsElements, bracketed}
-use Rattle.vb_parse_expr.proofs.ReadingLists.{ended, creation_begun, one_list}
+use Rattle.vb_parse_expr.proofs.{TypeFronts.{type_read, simple_type_read, arguments_read}, Reaches.{Reaches, then, one_step, around}, Steps.{alone_step, opening_step, name_step, address_step, test_step, member_step, new_step, type_member_step, conversion_step, cast_step, if_step}, Behind.{member_behind_step, address_behind, test_behind}, Firsts.{Begins, begins_behind, no_closing}, Edges.{over_dot, over_end, over_type, over_created_type, over_created, over_operand, over_arguments, either_false, opening_over_type, empty_over_type}, ReadingParts.{from_same, Leads, leads, ReadsExpression, ReadsPrimary, new, ReadsArguments, ReadsElements, bracketed}, ReadingLists.{ended, creation_begun, one_list}}
 
 pub alone_primary : {goal : Goal} {x : Expr} (t : Token) → alone_of t ≡ Some x → ReadsPrimary goal closed (t ∷ []) x
 alone_primary {goal = goal} {x = x} t is = record {

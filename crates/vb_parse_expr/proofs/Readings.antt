@@ -1,20 +1,12 @@
 -- What stands at the front of tokens is read, and so there is one reading at most.
 use Rattle.std.proofs.Common.{◌≡◌, ℕ, ◌≤◌, List, [], ◌++◌, length, take, drop, Some, ap, sym, subst, ◌∙◌, arith}
 use Rattle.std.proofs.lemmas.List.{take-append-drop, length-drop}
-use Rattle.vb_syntax.specs.declared.tokens.Token.{Token}
-use Rattle.vb_syntax.specs.declared.types.SimpleTypeName.{SimpleTypeName}
-use Rattle.vb_syntax.specs.declared.types.TypeName.{TypeName}
-use Rattle.vb_syntax.specs.declared.expression.Expr.{Expr}
-use Rattle.vb_syntax.specs.declared.expression.VariableInitializer.{VariableInitializer}
+use Rattle.vb_syntax.specs.declared.{tokens.Token.Token, types.{SimpleTypeName.SimpleTypeName, TypeName.TypeName}, expression.{Expr.Expr, VariableInitializer.VariableInitializer}}
 use Rattle.vb_syntax.specs.declared.expression.VariableInitializer.TheVariants as init
 use Rattle.vb_parse_expr.specs.declared.pending.Goal.TheVariants as for
 use Rattle.vb_parse_expr.specs.declared.machine.State.TheVariants as at
-use Rattle.vb_parse_expr.specs.Types.{IsTypeFront, IsSimpleTypeFront}
-use Rattle.vb_parse_expr.specs.Fronts.{IsFront, IsPrimaryFront, IsInitializerFront}
-use Rattle.vb_parse_expr.specs.TypeReading.{Read, read_type, read_simple_type, most_turns, most_tokens}
-use Rattle.vb_parse_expr.specs.MachineReading.{run}
-use Rattle.vb_parse_expr.proofs.TypeFronts.{type_read, simple_type_read}
-use Rattle.vb_parse_expr.proofs.Complete.{primary_read, expression_read, initializer_read}
+use Rattle.vb_parse_expr.specs.{Types.{IsTypeFront, IsSimpleTypeFront}, Fronts.{IsFront, IsPrimaryFront, IsInitializerFront}, TypeReading.{Read, read_type, read_simple_type, most_turns, most_tokens}, MachineReading.run}
+use Rattle.vb_parse_expr.proofs.{TypeFronts.{type_read, simple_type_read}, Complete.{primary_read, expression_read, initializer_read}}
 
 -- what is read of the first n tokens and the rest is read of the whole
 whole : {A : Type 0} (read : List Token → Read A) (x : A) (n : ℕ) (ts : List Token)

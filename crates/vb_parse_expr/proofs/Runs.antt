@@ -1,11 +1,7 @@
 -- A turn of the reading of an expression.
 use Rattle.std.proofs.Common.{◌≡◌, ℕ, suc, List, Some, None, Ok, Err, ap, ◌∙◌}
-use Rattle.vb_syntax.specs.declared.tokens.Token.{Token}
-use Rattle.vb_syntax.specs.declared.expression.VariableInitializer.{VariableInitializer}
-use Rattle.vb_parse_expr.specs.declared.pending.Pending.{Pending}
-use Rattle.vb_parse_expr.specs.declared.pending.Goal.{Goal}
-use Rattle.vb_parse_expr.specs.declared.machine.State.{State}
-use Rattle.vb_parse_expr.specs.MachineReading.{run, step, step_ends, turn_ends, finished}
+use Rattle.vb_syntax.specs.declared.{tokens.Token.Token, expression.VariableInitializer.VariableInitializer}
+use Rattle.vb_parse_expr.specs.{declared.{pending.{Pending.Pending, Goal.Goal}, machine.State.State}, MachineReading.{run, step, step_ends, turn_ends, finished}}
 
 pub turn_on : (goal : Goal) (n : ℕ) (ws : List Pending) (s : State) (ts : List Token) (p : List Pending × State × List Token) (t : State)
     → step goal ws s ts ≡ Some p → finished p.1 ≡ Err t → run goal (suc n) ws s ts ≡ run goal n p.0 t p.2

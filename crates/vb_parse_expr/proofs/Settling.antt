@@ -1,25 +1,14 @@
 -- The operators that have both operands are joined to what they spell.
 use Rattle.std.proofs.Common.{◌≡◌, ℕ, zero, suc, ◌≤◌, ◌<◌, max, nat_lt, cond, Bool, true, false, List, [], ◌∷◌, ◌++◌, length, Option, Some, None, refl, ap, sym, subst, ◌∙◌, append_assoc, arith}
 use Rattle.std.proofs.lemmas.Bool.{ltb-true, ltb-false}
-use Rattle.vb_syntax.specs.declared.keyword.Keyword.{Keyword}
+use Rattle.vb_syntax.specs.declared.{keyword.Keyword.Keyword, symbol.Symbol.Symbol, tokens.Token.Token, expression.{BinaryOperator.BinaryOperator, UnaryOperator.UnaryOperator, Expr.Expr}}
 use Rattle.vb_syntax.specs.declared.keyword.Keyword.TheVariants as word
-use Rattle.vb_syntax.specs.declared.symbol.Symbol.{Symbol}
 use Rattle.vb_syntax.specs.declared.symbol.Symbol.TheVariants as sign
-use Rattle.vb_syntax.specs.declared.tokens.Token.{Token}
 use Rattle.vb_syntax.specs.declared.tokens.Token.TheVariants as token
-use Rattle.vb_syntax.specs.declared.expression.BinaryOperator.{BinaryOperator}
-use Rattle.vb_syntax.specs.declared.expression.UnaryOperator.{UnaryOperator}
-use Rattle.vb_syntax.specs.declared.expression.Expr.{Expr}
 use Rattle.vb_syntax.specs.declared.expression.Expr.TheVariants as e
-use Rattle.vb_parse_expr.specs.declared.pending.Pending.{Pending}
+use Rattle.vb_parse_expr.specs.{declared.pending.{Pending.Pending, Goal.Goal}, Words.{operator_of, sign_between, word_between}, Expressions.{Spells, prefix, binary}, TypeReading.{popped, popped_behind}, MachineReading.{wants_primary, settled, settled_at}}
 use Rattle.vb_parse_expr.specs.declared.pending.Pending.TheVariants as wait
-use Rattle.vb_parse_expr.specs.declared.pending.Goal.{Goal}
-use Rattle.vb_parse_expr.specs.Words.{operator_of, sign_between, word_between}
-use Rattle.vb_parse_expr.specs.Expressions.{Spells, prefix, binary}
-use Rattle.vb_parse_expr.specs.TypeReading.{popped, popped_behind}
-use Rattle.vb_parse_expr.specs.MachineReading.{wants_primary, settled, settled_at}
-use Rattle.vb_parse_expr.proofs.Lists.{popped_append}
-use Rattle.vb_parse_expr.proofs.Waiting.{IsReadFrom, IsPlaced, Waits, nothing, more, Last, last_holds}
+use Rattle.vb_parse_expr.proofs.{Lists.popped_append, Waiting.{IsReadFrom, IsPlaced, Waits, nothing, more, Last, last_holds}}
 
 -- THE LAST OF WHAT WAITS
 

@@ -1,16 +1,11 @@
 -- What the reading of expressions finds is spelled at the front, and nothing goes on with it.
 use Rattle.std.proofs.Common.{◌≡◌, ℕ, ◌≤◌, Bool, true, false, List, [], ◌∷◌, ◌++◌, length, Option, Some, None, refl, ap, sym, ◌∙◌, true≢false}
-use Rattle.vb_syntax.specs.declared.tokens.Token.{Token}
-use Rattle.vb_syntax.specs.declared.expression.Expr.{Expr}
-use Rattle.vb_syntax.specs.declared.expression.VariableInitializer.{VariableInitializer}
+use Rattle.vb_syntax.specs.declared.{tokens.Token.Token, expression.{Expr.Expr, VariableInitializer.VariableInitializer}}
 use Rattle.vb_syntax.specs.declared.expression.VariableInitializer.TheVariants as init
 use Rattle.vb_parse_expr.specs.declared.pending.Goal.TheVariants as for
 use Rattle.vb_parse_expr.specs.declared.machine.State.TheVariants as at
-use Rattle.vb_parse_expr.specs.Expressions.{Edge, Spells, SpellsPrimary, SpellsInitializer, expression, elements}
-use Rattle.vb_parse_expr.specs.Fronts.{goes_on, goes_on_primary, goes_on_initializer}
-use Rattle.vb_parse_expr.specs.MachineReading.{run}
-use Rattle.vb_parse_expr.proofs.Waiting.{EndsWith, primary_ends, expression_ends, elements_end}
-use Rattle.vb_parse_expr.proofs.Kept.{run_ended}
+use Rattle.vb_parse_expr.specs.{Expressions.{Edge, Spells, SpellsPrimary, SpellsInitializer, expression, elements}, Fronts.{goes_on, goes_on_primary, goes_on_initializer}, MachineReading.run}
+use Rattle.vb_parse_expr.proofs.{Waiting.{EndsWith, primary_ends, expression_ends, elements_end}, Kept.run_ended}
 
 pub record FoundPrimary (ts : List Token) (x : Expr) (rest : List Token) : Type 0 where
   pub front : List Token

@@ -1,19 +1,8 @@
 -- Steps from one state of the reading to the next.
 use Rattle.std.proofs.Common.{◌≡◌, ℕ, Bool, true, false, List, [], ◌∷◌, ◌++◌, Some, None, refl, ap, sym, subst, ◌∙◌, append_assoc}
-use Rattle.vb_syntax.specs.declared.tokens.Token.{Token}
-use Rattle.vb_syntax.specs.declared.expression.Expr.{Expr}
-use Rattle.vb_syntax.specs.declared.expression.VariableInitializer.{VariableInitializer}
-use Rattle.vb_parse_expr.specs.declared.pending.Pending.{Pending}
-use Rattle.vb_parse_expr.specs.declared.pending.Goal.{Goal}
-use Rattle.vb_parse_expr.specs.Words.{opening, closing, dot, comma}
-use Rattle.vb_parse_expr.specs.Types.{goes_on_type}
-use Rattle.vb_parse_expr.specs.Expressions.{Edge, closed, operand, created, tested, Spells, SpellsPrimary, SpellsElements, SpellsList, one, more, SpellsInitializer, SpellsInitializers, one_initializer, more_initializers}
-use Rattle.vb_parse_expr.specs.Reading.{after_opening, after_closing, after_dot}
-use Rattle.vb_parse_expr.specs.TypeReading.{popped}
-use Rattle.vb_parse_expr.specs.MachineReading.{wants_element}
-use Rattle.vb_parse_expr.proofs.FirstTokens.{opening_first, closing_first, dot_first}
-use Rattle.vb_parse_expr.proofs.Waiting.{IsReadFrom, IsPlaced, Ready, Wanting, HasPrimary, HasBraces, ListBegun, ElementsBegun}
-use Rattle.vb_parse_expr.proofs.Settling.{last_waits, one_more_waits}
+use Rattle.vb_syntax.specs.declared.{tokens.Token.Token, expression.{Expr.Expr, VariableInitializer.VariableInitializer}}
+use Rattle.vb_parse_expr.specs.{declared.pending.{Pending.Pending, Goal.Goal}, Words.{opening, closing, dot, comma}, Types.goes_on_type, Expressions.{Edge, closed, operand, created, tested, Spells, SpellsPrimary, SpellsElements, SpellsList, one, more, SpellsInitializer, SpellsInitializers, one_initializer, more_initializers}, Reading.{after_opening, after_closing, after_dot}, TypeReading.popped, MachineReading.wants_element}
+use Rattle.vb_parse_expr.proofs.{FirstTokens.{opening_first, closing_first, dot_first}, Waiting.{IsReadFrom, IsPlaced, Ready, Wanting, HasPrimary, HasBraces, ListBegun, ElementsBegun}, Settling.{last_waits, one_more_waits}}
 
 -- WHAT STANDS BEHIND A PRIMARY
 

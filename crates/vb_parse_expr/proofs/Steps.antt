@@ -1,27 +1,13 @@
 -- What a step of the reading does where an operand is wanted, for each token that one begins with.
 use Rattle.std.proofs.Common.{◌≡◌, ℕ, true, false, List, [], ◌∷◌, ◌++◌, Some, None, if◌then◌else◌, refl, ap, ◌∙◌}
 use Rattle.vb_text.specs.declared.names.Name.{Name}
-use Rattle.vb_syntax.specs.declared.keyword.Keyword.{Keyword}
+use Rattle.vb_syntax.specs.declared.{keyword.Keyword.Keyword, symbol.Symbol.Symbol, tokens.Token.Token, types.{PrimitiveTypeName.PrimitiveTypeName, BuiltInTypeName.BuiltInTypeName, SimpleTypeName.SimpleTypeName, TypeName.TypeName}, expression.{UnaryOperator.UnaryOperator, CastOperator.CastOperator, Expr.Expr}}
 use Rattle.vb_syntax.specs.declared.keyword.Keyword.TheVariants as word
-use Rattle.vb_syntax.specs.declared.symbol.Symbol.{Symbol}
-use Rattle.vb_syntax.specs.declared.tokens.Token.{Token}
 use Rattle.vb_syntax.specs.declared.tokens.Token.TheVariants as token
-use Rattle.vb_syntax.specs.declared.types.PrimitiveTypeName.{PrimitiveTypeName}
-use Rattle.vb_syntax.specs.declared.types.BuiltInTypeName.{BuiltInTypeName}
-use Rattle.vb_syntax.specs.declared.types.SimpleTypeName.{SimpleTypeName}
-use Rattle.vb_syntax.specs.declared.types.TypeName.{TypeName}
-use Rattle.vb_syntax.specs.declared.expression.UnaryOperator.{UnaryOperator}
-use Rattle.vb_syntax.specs.declared.expression.CastOperator.{CastOperator}
-use Rattle.vb_syntax.specs.declared.expression.Expr.{Expr}
 use Rattle.vb_syntax.specs.declared.expression.Expr.TheVariants as expr
-use Rattle.vb_parse_expr.specs.declared.pending.Pending.{Pending}
+use Rattle.vb_parse_expr.specs.{declared.pending.{Pending.Pending, Goal.Goal}, Words.{opening, opening_brace, dot, name_of, word_type, type_of, word_alone, alone_of, word_cast, primitive_cast, word_cast_operator, cast_operator, prefix_of}, Reading.{after_opening, after_opening_brace, after_dot}, TypeReading.{and_then, name_at, read_name, read_type_arguments, read_simple_type}, MachineReading.{wants_primary, wants_element, elements, creation_at, creation, call_of, word_at, begin_word, begin_sign, named, begin, prefix_or_begin, want, step}}
 use Rattle.vb_parse_expr.specs.declared.pending.Pending.TheVariants as wait
-use Rattle.vb_parse_expr.specs.declared.pending.Goal.{Goal}
 use Rattle.vb_parse_expr.specs.declared.machine.State.TheVariants as at
-use Rattle.vb_parse_expr.specs.Words.{opening, opening_brace, dot, name_of, word_type, type_of, word_alone, alone_of, word_cast, primitive_cast, word_cast_operator, cast_operator, prefix_of}
-use Rattle.vb_parse_expr.specs.Reading.{after_opening, after_opening_brace, after_dot}
-use Rattle.vb_parse_expr.specs.TypeReading.{and_then, name_at, read_name, read_type_arguments, read_simple_type}
-use Rattle.vb_parse_expr.specs.MachineReading.{wants_primary, wants_element, elements, creation_at, creation, call_of, word_at, begin_word, begin_sign, named, begin, prefix_or_begin, want, step}
 
 pub nothing_is_some : {A : Type 0} {x : A} (B : Type 0) → None ≡ Some x → B
 nothing_is_some B e = absurd cc

@@ -5,10 +5,7 @@ use Rattle.vb_syntax.specs.declared.keyword.Keyword.TheVariants as word
 use Rattle.vb_syntax.specs.declared.symbol.Symbol.TheVariants as sign
 use Rattle.vb_syntax.specs.declared.tokens.Token.{Token}
 use Rattle.vb_syntax.specs.declared.tokens.Token.TheVariants as token
-use Rattle.vb_parse_expr.specs.Words.{opening, closing, comma, dot, name_of, type_of}
-use Rattle.vb_parse_expr.specs.Types.{goes_on_name, goes_on_array, goes_on_type}
-use Rattle.vb_parse_expr.specs.Reading.{after_opening, after_closing, after_comma, after_dot, after_of}
-use Rattle.vb_parse_expr.specs.TypeReading.{behind, after_opening_of}
+use Rattle.vb_parse_expr.specs.{Words.{opening, closing, comma, dot, name_of, type_of}, Types.{goes_on_name, goes_on_array, goes_on_type}, Reading.{after_opening, after_closing, after_comma, after_dot, after_of}, TypeReading.{behind, after_opening_of}}
 use Rattle.vb_parse_expr.proofs.FoundTypes.{begins_arguments}
 
 -- THE TOKEN THAT STANDS FIRST

@@ -3,14 +3,9 @@ use Rattle.std.proofs.Common.{◌≡◌, ◌<◌, Bool, true, false, ◌||◌, L
 use Rattle.vb_text.specs.declared.names.Name.{Name}
 use Rattle.vb_syntax.specs.declared.keyword.Keyword.TheVariants as word
 use Rattle.vb_syntax.specs.declared.symbol.Symbol.TheVariants as sign
-use Rattle.vb_syntax.specs.declared.tokens.Token.{Token}
+use Rattle.vb_syntax.specs.declared.{tokens.Token.Token, types.{BuiltInTypeName.BuiltInTypeName, SimpleTypeName.SimpleTypeName, TypeName.TypeName}}
 use Rattle.vb_syntax.specs.declared.tokens.Token.TheVariants as token
-use Rattle.vb_syntax.specs.declared.types.BuiltInTypeName.{BuiltInTypeName}
-use Rattle.vb_syntax.specs.declared.types.SimpleTypeName.{SimpleTypeName}
-use Rattle.vb_syntax.specs.declared.types.TypeName.{TypeName}
-use Rattle.vb_parse_expr.specs.Words.{opening, closing, dot, name_of, type_of}
-use Rattle.vb_parse_expr.specs.Types.{SpellsNames, SpellsType, SpellsSimpleType, plain, array, built_in, qualified, one, more}
-use Rattle.vb_parse_expr.specs.Reading.{after_opening, after_closing, after_opening_brace, after_comma, after_dot, after_of}
+use Rattle.vb_parse_expr.specs.{Words.{opening, closing, dot, name_of, type_of}, Types.{SpellsNames, SpellsType, SpellsSimpleType, plain, array, built_in, qualified, one, more}, Reading.{after_opening, after_closing, after_opening_brace, after_comma, after_dot, after_of}}
 
 -- NONE IS EMPTY
 

@@ -1,19 +1,11 @@
 -- The reading of the names of types finds what is spelled at the front, and finds it wherever it is.
 use Rattle.std.proofs.Common.{◌≡◌, ℕ, zero, suc, ◌≤◌, Bool, true, false, ◌&&◌, List, [], ◌∷◌, ◌++◌, length, Option, Some, None, refl, ap, sym, ◌∙◌, subst, append_assoc, length-append, arith}
 use Rattle.vb_syntax.specs.declared.keyword.Keyword.TheVariants as word
-use Rattle.vb_syntax.specs.declared.tokens.Token.{Token}
+use Rattle.vb_syntax.specs.declared.{tokens.Token.Token, types.{SimpleTypeName.SimpleTypeName, TypeName.TypeName}}
 use Rattle.vb_syntax.specs.declared.tokens.Token.TheVariants as token
-use Rattle.vb_syntax.specs.declared.types.SimpleTypeName.{SimpleTypeName}
-use Rattle.vb_syntax.specs.declared.types.TypeName.{TypeName}
-use Rattle.vb_parse_expr.specs.Words.{opening, closing, comma}
-use Rattle.vb_parse_expr.specs.Types.{SpellsType, SpellsSimpleType, SpellsTypeArguments, SpellsTypes, goes_on_type, plain, array, none, some, one, more}
-use Rattle.vb_parse_expr.specs.Reading.{after_closing, after_comma}
-use Rattle.vb_parse_expr.specs.TypeReading.{Read, and_then, after_opening_of, with_array, listed, type_list, list_or_none, read_simple_type, read_type, read_type_arguments, most_tokens, most_turns}
+use Rattle.vb_parse_expr.specs.{Words.{opening, closing, comma}, Types.{SpellsType, SpellsSimpleType, SpellsTypeArguments, SpellsTypes, goes_on_type, plain, array, none, some, one, more}, Reading.{after_closing, after_comma}, TypeReading.{Read, and_then, after_opening_of, with_array, listed, type_list, list_or_none, read_simple_type, read_type, read_type_arguments, most_tokens, most_turns}}
 pub use Rattle.vb_parse_expr.proofs.FoundTypes.{begins_arguments, FoundType, FoundSimpleType, FoundArguments}
-use Rattle.vb_parse_expr.proofs.TypeAhead.{closing_first, comma_first, opening_of_first, opening_of_stands, over_arguments, arguments_over, over_type, type_over, comma_over, closing_over, parentheses_over}
-use Rattle.vb_parse_expr.proofs.TypeNames.{then_some, parts_of}
-use Rattle.vb_parse_expr.proofs.TypesFound.{array_found, moved, run_found}
-use Rattle.vb_parse_expr.proofs.TypesRead.{plain_stands, array_stands, run_read}
+use Rattle.vb_parse_expr.proofs.{TypeAhead.{closing_first, comma_first, opening_of_first, opening_of_stands, over_arguments, arguments_over, over_type, type_over, comma_over, closing_over, parentheses_over}, TypeNames.{then_some, parts_of}, TypesFound.{array_found, moved, run_found}, TypesRead.{plain_stands, array_stands, run_read}}
 
 -- FOUND: what is read stands at the front, and nothing goes on with it
 

@@ -2,10 +2,7 @@
 use Rattle.std.proofs.Common.{◌≡◌, ℕ, zero, suc, ◌≤◌, List, [], ◌∷◌, ◌++◌, length, Option, Some, None, refl, ap, sym, ◌∙◌, append_assoc, arith}
 use Rattle.vb_text.specs.declared.names.Name.{Name}
 use Rattle.vb_syntax.specs.declared.tokens.Token.{Token}
-use Rattle.vb_parse_expr.specs.Words.{dot, name_of}
-use Rattle.vb_parse_expr.specs.Types.{SpellsNames, one, more}
-use Rattle.vb_parse_expr.specs.Reading.{after_dot}
-use Rattle.vb_parse_expr.specs.TypeReading.{Read, and_then, name_at, read_name, names, names_at}
+use Rattle.vb_parse_expr.specs.{Words.{dot, name_of}, Types.{SpellsNames, one, more}, Reading.after_dot, TypeReading.{Read, and_then, name_at, read_name, names, names_at}}
 use Rattle.vb_parse_expr.proofs.TypeAhead.{dot_first}
 
 -- A READING AFTER ANOTHER

@@ -1,15 +1,10 @@
 -- What goes on with a type, for what stands behind a type in an expression.
 use Rattle.std.proofs.Common.{◌≡◌, Bool, true, false, ◌&&◌, List, [], ◌∷◌, None, is_some, refl, ap, sym, ◌∙◌}
 use Rattle.vb_syntax.specs.declared.symbol.Symbol.TheVariants as sign
-use Rattle.vb_syntax.specs.declared.tokens.Token.{Token}
+use Rattle.vb_syntax.specs.declared.{tokens.Token.Token, types.TypeName.TypeName}
 use Rattle.vb_syntax.specs.declared.tokens.Token.TheVariants as token
-use Rattle.vb_syntax.specs.declared.types.TypeName.{TypeName}
-use Rattle.vb_parse_expr.specs.Words.{opening, closing, dot}
-use Rattle.vb_parse_expr.specs.Types.{SpellsTypeArguments, goes_on_name, goes_on_array, goes_on_type, none, some}
-use Rattle.vb_parse_expr.specs.Fronts.{goes_on_primary}
-use Rattle.vb_parse_expr.specs.Reading.{after_closing, after_of}
-use Rattle.vb_parse_expr.proofs.FoundTypes.{begins_arguments}
-use Rattle.vb_parse_expr.proofs.TypeAhead.{and_false, over_type, type_over, of_tells_name, closing_tells, of_tells}
+use Rattle.vb_parse_expr.specs.{Words.{opening, closing, dot}, Types.{SpellsTypeArguments, goes_on_name, goes_on_array, goes_on_type, none, some}, Fronts.goes_on_primary, Reading.{after_closing, after_of}}
+use Rattle.vb_parse_expr.proofs.{FoundTypes.begins_arguments, TypeAhead.{and_false, over_type, type_over, of_tells_name, closing_tells, of_tells}}
 
 -- WHAT GOES ON WITH NO PRIMARY GOES ON WITH NO TYPE
 

@@ -1,12 +1,7 @@
 -- A turn of the reading of a type.
 use Rattle.std.proofs.Common.{◌≡◌, ℕ, suc, List, Option, Some, None, Result, Ok, Err, ap, ◌∙◌}
-use Rattle.vb_syntax.specs.declared.tokens.Token.{Token}
-use Rattle.vb_syntax.specs.declared.types.SimpleTypeName.{SimpleTypeName}
-use Rattle.vb_parse_expr.specs.declared.fault.Fault.{Fault}
-use Rattle.vb_parse_expr.specs.declared.fault.Fault.TheVariants.{Memory, Grammar}
-use Rattle.vb_parse_expr.specs.declared.types.OpenName.{OpenName}
-use Rattle.vb_parse_expr.specs.declared.types.TypeState.{TypeState}
-use Rattle.vb_parse_expr.specs.TypeReading.{Fails, run_types, type_step, step_ends, turn_ends, finished}
+use Rattle.vb_syntax.specs.declared.{tokens.Token.Token, types.SimpleTypeName.SimpleTypeName}
+use Rattle.vb_parse_expr.specs.{declared.{fault.Fault.{Fault, TheVariants.{Memory, Grammar}}, types.{OpenName.OpenName, TypeState.TypeState}}, TypeReading.{Fails, run_types, type_step, step_ends, turn_ends, finished}}
 
 pub turn_on : (n : ℕ) (ws : List OpenName) (s : TypeState) (ts : List Token) (p : List OpenName × TypeState × List Token) (t : TypeState)
     → type_step ws s ts ≡ Some p → finished p.1 ≡ Err t → run_types (suc n) ws s ts ≡ run_types n p.0 t p.2

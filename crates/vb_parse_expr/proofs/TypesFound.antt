@@ -2,23 +2,12 @@
 use Rattle.std.proofs.Common.{◌≡◌, ℕ, zero, suc, ◌<◌, ◌≤◌, Bool, true, false, List, [], ◌∷◌, ◌++◌, length, Option, Some, None, refl, ap, sym, ◌∙◌, subst, append_assoc, append-nil, arith}
 use Rattle.vb_text.specs.declared.names.Name.{Name}
 use Rattle.vb_syntax.specs.declared.keyword.Keyword.TheVariants as word
-use Rattle.vb_syntax.specs.declared.tokens.Token.{Token}
+use Rattle.vb_syntax.specs.declared.{tokens.Token.Token, types.{BuiltInTypeName.BuiltInTypeName, SimpleTypeName.SimpleTypeName, TypeName.TypeName}}
 use Rattle.vb_syntax.specs.declared.tokens.Token.TheVariants as token
-use Rattle.vb_syntax.specs.declared.types.BuiltInTypeName.{BuiltInTypeName}
-use Rattle.vb_syntax.specs.declared.types.SimpleTypeName.{SimpleTypeName}
 use Rattle.vb_syntax.specs.declared.types.SimpleTypeName.TheVariants as simple
-use Rattle.vb_syntax.specs.declared.types.TypeName.{TypeName}
-use Rattle.vb_parse_expr.specs.declared.types.OpenName.{OpenName}
-use Rattle.vb_parse_expr.specs.declared.types.TypeState.{TypeState}
+use Rattle.vb_parse_expr.specs.{declared.types.{OpenName.OpenName, TypeState.TypeState}, Words.{opening, closing, comma, type_of}, Types.{SpellsNames, SpellsSimpleType, SpellsTypes, qualified_by, goes_on_type, plain, array, built_in, qualified, none, some, one, more}, Reading.{after_opening, after_closing, after_comma}, TypeReading.{behind, after_opening_of, with_array, with_array_at, TypeStep, TypeRun, open_name, names, arguments_or_none, word_or_names, want_type, more_or_closed, argument_read, have_type, have_at, type_step, finished, turn_ends, step_ends, run_types, popped}}
 use Rattle.vb_parse_expr.specs.declared.types.TypeState.TheVariants as at
-use Rattle.vb_parse_expr.specs.Words.{opening, closing, comma, type_of}
-use Rattle.vb_parse_expr.specs.Types.{SpellsNames, SpellsSimpleType, SpellsTypes, qualified_by, goes_on_type, plain, array, built_in, qualified, none, some, one, more}
-use Rattle.vb_parse_expr.specs.Reading.{after_opening, after_closing, after_comma}
-use Rattle.vb_parse_expr.specs.TypeReading.{behind, after_opening_of, with_array, with_array_at, TypeStep, TypeRun, open_name, names, arguments_or_none, word_or_names, want_type, more_or_closed, argument_read, have_type, have_at, type_step, finished, turn_ends, step_ends, run_types, popped}
-use Rattle.vb_parse_expr.proofs.Lists.{popped_append}
-use Rattle.vb_parse_expr.proofs.FoundTypes.{FoundType, FoundSimpleType}
-use Rattle.vb_parse_expr.proofs.TypeAhead.{closing_first, comma_first, opening_of_first, array_first, over_name, over_array, over_type, type_over}
-use Rattle.vb_parse_expr.proofs.TypeNames.{then_some, parts_of, FoundNames, names_found}
+use Rattle.vb_parse_expr.proofs.{Lists.popped_append, FoundTypes.{FoundType, FoundSimpleType}, TypeAhead.{closing_first, comma_first, opening_of_first, array_first, over_name, over_array, over_type, type_over}, TypeNames.{then_some, parts_of, FoundNames, names_found}}
 
 -- AN ARRAY
 

@@ -2,24 +2,13 @@
 use Rattle.std.proofs.Common.{◌≡◌, ℕ, suc, ◌+◌, ◌-◌, ◌<◌, ◌≤◌, Bool, true, false, List, [], ◌∷◌, ◌++◌, length, Some, None, refl, ap, ◌∙◌, subst, append_assoc, append-nil, length-append, arith}
 use Rattle.vb_text.specs.declared.names.Name.{Name}
 use Rattle.vb_syntax.specs.declared.keyword.Keyword.TheVariants as word
-use Rattle.vb_syntax.specs.declared.tokens.Token.{Token}
+use Rattle.vb_syntax.specs.declared.{tokens.Token.Token, types.{BuiltInTypeName.BuiltInTypeName, SimpleTypeName.SimpleTypeName, TypeName.TypeName}}
 use Rattle.vb_syntax.specs.declared.tokens.Token.TheVariants as token
-use Rattle.vb_syntax.specs.declared.types.BuiltInTypeName.{BuiltInTypeName}
-use Rattle.vb_syntax.specs.declared.types.SimpleTypeName.{SimpleTypeName}
 use Rattle.vb_syntax.specs.declared.types.SimpleTypeName.TheVariants as simple
-use Rattle.vb_syntax.specs.declared.types.TypeName.{TypeName}
 use Rattle.vb_syntax.specs.declared.types.TypeName.TheVariants as type_name
-use Rattle.vb_parse_expr.specs.declared.types.OpenName.{OpenName}
-use Rattle.vb_parse_expr.specs.declared.types.TypeState.{TypeState}
+use Rattle.vb_parse_expr.specs.{declared.types.{OpenName.OpenName, TypeState.TypeState}, Words.{opening, closing, comma, dot, type_of}, Types.{SpellsNames, SpellsType, SpellsSimpleType, SpellsTypeArguments, SpellsTypes, qualified_by, goes_on_type, goes_on_array, plain, array, built_in, qualified, none, some, one, more}, Reading.{after_opening, after_closing, after_comma, after_dot}, TypeReading.{Read, and_then, after_opening_of, with_array, with_array_at, open_name, names, arguments_or_none, word_or_names, want_type, argument_read, type_step, step_ends, run_types}}
 use Rattle.vb_parse_expr.specs.declared.types.TypeState.TheVariants as at
-use Rattle.vb_parse_expr.specs.Words.{opening, closing, comma, dot, type_of}
-use Rattle.vb_parse_expr.specs.Types.{SpellsNames, SpellsType, SpellsSimpleType, SpellsTypeArguments, SpellsTypes, qualified_by, goes_on_type, goes_on_array, plain, array, built_in, qualified, none, some, one, more}
-use Rattle.vb_parse_expr.specs.Reading.{after_opening, after_closing, after_comma, after_dot}
-use Rattle.vb_parse_expr.specs.TypeReading.{Read, and_then, after_opening_of, with_array, with_array_at, open_name, names, arguments_or_none, word_or_names, want_type, argument_read, type_step, step_ends, run_types}
-use Rattle.vb_parse_expr.proofs.TypeAhead.{opening_of_stands, name_over, array_over, type_over, over_type, comma_over, parentheses_over, closing_over, name_no_word}
-use Rattle.vb_parse_expr.proofs.TypeNames.{names_read}
-use Rattle.vb_parse_expr.proofs.TypeBegins.{some_names}
-use Rattle.vb_parse_expr.proofs.TypesFound.{have_turn, last_turn}
+use Rattle.vb_parse_expr.proofs.{TypeAhead.{opening_of_stands, name_over, array_over, type_over, over_type, comma_over, parentheses_over, closing_over, name_no_word}, TypeNames.names_read, TypeBegins.some_names, TypesFound.{have_turn, last_turn}}
 
 -- SO MANY TURNS AT MOST LEAD FROM ONE PLACE OF THE READING TO ANOTHER
 

@@ -1,27 +1,14 @@
 -- What has been begun and waits, and the tokens that it was read from.
 use Rattle.std.proofs.Common.{◌≡◌, ℕ, ◌≤◌, ◌<◌, Bool, true, false, List, [], ◌∷◌, ◌++◌, Option, Some, None}
 use Rattle.vb_syntax.specs.declared.keyword.Keyword.TheVariants as word
-use Rattle.vb_syntax.specs.declared.tokens.Token.{Token}
+use Rattle.vb_syntax.specs.declared.{tokens.Token.Token, types.SimpleTypeName.SimpleTypeName, expression.{BinaryOperator.BinaryOperator, Expr.Expr, VariableInitializer.VariableInitializer}}
 use Rattle.vb_syntax.specs.declared.tokens.Token.TheVariants as token
-use Rattle.vb_syntax.specs.declared.types.SimpleTypeName.{SimpleTypeName}
-use Rattle.vb_syntax.specs.declared.expression.BinaryOperator.{BinaryOperator}
-use Rattle.vb_syntax.specs.declared.expression.Expr.{Expr}
 use Rattle.vb_syntax.specs.declared.expression.Expr.TheVariants as e
-use Rattle.vb_syntax.specs.declared.expression.VariableInitializer.{VariableInitializer}
 use Rattle.vb_syntax.specs.declared.expression.VariableInitializer.TheVariants as init
-use Rattle.vb_parse_expr.specs.declared.pending.Pending.{Pending}
+use Rattle.vb_parse_expr.specs.{declared.{pending.{Pending.Pending, Goal.Goal}, machine.State.State}, Words.{opening, opening_brace, comma, prefix_of, operator_of, primitive_cast, cast_operator}, Types.SpellsSimpleType, Expressions.{Edge, takes_member, takes_arguments, Spells, SpellsPrimary, SpellsList, SpellsElements, SpellsInitializers}, Fronts.{goes_on, goes_on_primary}, Reading.{after_opening, after_closing, after_dot}, TypeReading.popped, MachineReading.{Step, wants_primary, wants_element}}
 use Rattle.vb_parse_expr.specs.declared.pending.Pending.TheVariants as wait
-use Rattle.vb_parse_expr.specs.declared.pending.Goal.{Goal}
 use Rattle.vb_parse_expr.specs.declared.pending.Goal.TheVariants as for
-use Rattle.vb_parse_expr.specs.declared.machine.State.{State}
 use Rattle.vb_parse_expr.specs.declared.machine.State.TheVariants as at
-use Rattle.vb_parse_expr.specs.Words.{opening, opening_brace, comma, prefix_of, operator_of, primitive_cast, cast_operator}
-use Rattle.vb_parse_expr.specs.Types.{SpellsSimpleType}
-use Rattle.vb_parse_expr.specs.Expressions.{Edge, takes_member, takes_arguments, Spells, SpellsPrimary, SpellsList, SpellsElements, SpellsInitializers}
-use Rattle.vb_parse_expr.specs.Fronts.{goes_on, goes_on_primary}
-use Rattle.vb_parse_expr.specs.Reading.{after_opening, after_closing, after_dot}
-use Rattle.vb_parse_expr.specs.TypeReading.{popped}
-use Rattle.vb_parse_expr.specs.MachineReading.{Step, wants_primary, wants_element}
 
 -- LISTS THAT HAVE BEEN BEGUN
 

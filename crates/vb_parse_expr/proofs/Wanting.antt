@@ -1,34 +1,16 @@
 -- Where an operand is to come.
 use Rattle.std.proofs.Common.{◌≡◌, ℕ, cond, Bool, true, false, List, [], ◌∷◌, ◌++◌, Option, Some, None, refl, ap, subst, ◌∙◌}
 use Rattle.vb_text.specs.declared.names.Name.{Name}
-use Rattle.vb_syntax.specs.declared.keyword.Keyword.{Keyword}
+use Rattle.vb_syntax.specs.declared.{keyword.Keyword.Keyword, symbol.Symbol.Symbol, tokens.Token.Token, types.{BuiltInTypeName.BuiltInTypeName, PrimitiveTypeName.PrimitiveTypeName, TypeName.TypeName}, expression.{UnaryOperator.UnaryOperator, CastOperator.CastOperator, Expr.Expr}}
 use Rattle.vb_syntax.specs.declared.keyword.Keyword.TheVariants as word
-use Rattle.vb_syntax.specs.declared.symbol.Symbol.{Symbol}
 use Rattle.vb_syntax.specs.declared.symbol.Symbol.TheVariants as sign
-use Rattle.vb_syntax.specs.declared.tokens.Token.{Token}
 use Rattle.vb_syntax.specs.declared.tokens.Token.TheVariants as token
-use Rattle.vb_syntax.specs.declared.types.BuiltInTypeName.{BuiltInTypeName}
-use Rattle.vb_syntax.specs.declared.types.PrimitiveTypeName.{PrimitiveTypeName}
-use Rattle.vb_syntax.specs.declared.types.TypeName.{TypeName}
-use Rattle.vb_syntax.specs.declared.expression.UnaryOperator.{UnaryOperator}
-use Rattle.vb_syntax.specs.declared.expression.CastOperator.{CastOperator}
-use Rattle.vb_syntax.specs.declared.expression.Expr.{Expr}
 use Rattle.vb_syntax.specs.declared.expression.Expr.TheVariants as e
-use Rattle.vb_parse_expr.specs.declared.pending.Pending.{Pending}
+use Rattle.vb_parse_expr.specs.{declared.pending.{Pending.Pending, Goal.Goal}, Words.{opening, opening_brace, closing_brace, dot, name_of, type_of, alone_of, primitive_cast, cast_operator, prefix_of}, Expressions.{alone, name, type_member, with_member, no_elements}, Reading.{after_opening, after_dot, after_opening_brace, after_closing_brace}, TypeReading.{Read, and_then, behind, read_name, read_type_arguments}}
 use Rattle.vb_parse_expr.specs.declared.pending.Pending.TheVariants as wait
-use Rattle.vb_parse_expr.specs.declared.pending.Goal.{Goal}
 use Rattle.vb_parse_expr.specs.declared.machine.State.TheVariants as at
-use Rattle.vb_parse_expr.specs.Words.{opening, opening_brace, closing_brace, dot, name_of, type_of, alone_of, primitive_cast, cast_operator, prefix_of}
-use Rattle.vb_parse_expr.specs.Expressions.{alone, name, type_member, with_member, no_elements}
-use Rattle.vb_parse_expr.specs.Reading.{after_opening, after_dot, after_opening_brace, after_closing_brace}
-use Rattle.vb_parse_expr.specs.TypeReading.{Read, and_then, behind, read_name, read_type_arguments}
 use Rattle.vb_parse_expr.specs.MachineReading as machine
-use Rattle.vb_parse_expr.proofs.FirstTokens.{opening_first, dot_first, opening_brace_first, closing_brace_first, name_first}
-use Rattle.vb_parse_expr.proofs.TypeFronts.{FoundArguments, arguments_found}
-use Rattle.vb_parse_expr.proofs.Waiting.{IsReadFrom, IsPlaced, Wanting, HasPrimary, Keeps}
-use Rattle.vb_parse_expr.proofs.Settling.{some_of}
-use Rattle.vb_parse_expr.proofs.States.{closed_ready, elements_empty, waiting_from, primary_from, braces_from}
-use Rattle.vb_parse_expr.proofs.Creations.{creation_keeps}
+use Rattle.vb_parse_expr.proofs.{FirstTokens.{opening_first, dot_first, opening_brace_first, closing_brace_first, name_first}, TypeFronts.{FoundArguments, arguments_found}, Waiting.{IsReadFrom, IsPlaced, Wanting, HasPrimary, Keeps}, Settling.some_of, States.{closed_ready, elements_empty, waiting_from, primary_from, braces_from}, Creations.creation_keeps}
 
 module _ (goal : Goal) (all : List Token) where
   alone_keeps : (ws : List Pending) (t : Token) (ts : List Token) (x : Expr) → Wanting goal all ws (t ∷ ts) → alone_of t ≡ Some x

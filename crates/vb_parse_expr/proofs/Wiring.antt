@@ -3,32 +3,16 @@ use Rattle.std.proofs.Common.{◌≡◌, ℕ, ◌+◌, ◌-◌, ◌<◌, ◌≤�
 use Rattle.std.specs.Result.{IfOk}
 use Rattle.std.proofs.lemmas.List.{length-drop}
 use Rattle.std.proofs.Math.Seq.{take-append_seam, drop-append_seam}
-use Rattle.vb_syntax.specs.declared.tokens.Token.{Token}
-use Rattle.vb_syntax.specs.declared.tokens.Line.{Line}
-use Rattle.vb_syntax.specs.declared.types.SimpleTypeName.{SimpleTypeName}
-use Rattle.vb_syntax.specs.declared.types.TypeName.{TypeName}
-use Rattle.vb_syntax.specs.declared.expression.Expr.{Expr}
-use Rattle.vb_syntax.specs.declared.expression.VariableInitializer.{VariableInitializer}
+use Rattle.vb_syntax.specs.declared.{tokens.{Token.Token, Line.Line}, types.{SimpleTypeName.SimpleTypeName, TypeName.TypeName}, expression.{Expr.Expr, VariableInitializer.VariableInitializer}}
 use Rattle.vb_syntax.specs.declared.expression.VariableInitializer.TheVariants as init
-use Rattle.vb_parse_expr.specs.declared.error.ParseErr.{ParseErr}
-use Rattle.vb_parse_expr.specs.declared.error.ParseErr.TheVariants.{Refused, Memory}
-use Rattle.vb_parse_expr.specs.declared.fault.Fault.{Fault}
+use Rattle.vb_parse_expr.specs.{declared.{error.ParseErr.{ParseErr, TheVariants.{Refused, Memory}}, fault.Fault.Fault, pending.Goal.Goal}, Types.{SpellsType, SpellsSimpleType, IsTypeFront, IsSimpleTypeFront, goes_on_type}, Expressions.{Spells, SpellsPrimary, SpellsInitializer}, Fronts.{IsFront, IsPrimaryFront, IsInitializerFront, Answers, goes_on, goes_on_primary, goes_on_initializer}, TypeReading.{Read, Gives, and_then, with_array, read_type, read_simple_type, type_step, want_type, most_turns, most_tokens}, MachineReading.{run, step, want}, Placing.{Places, expression_at, expression_of, read_expression}}
 use Rattle.vb_parse_expr.specs.declared.fault.Fault.TheVariants as fault
-use Rattle.vb_parse_expr.specs.declared.pending.Goal.{Goal}
 use Rattle.vb_parse_expr.specs.declared.pending.Goal.TheVariants as for
 use Rattle.vb_parse_expr.specs.declared.machine.State.TheVariants as at
 use Rattle.vb_parse_expr.specs.declared.types.TypeState.TheVariants as at_type
-use Rattle.vb_parse_expr.specs.Types.{SpellsType, SpellsSimpleType, IsTypeFront, IsSimpleTypeFront, goes_on_type}
-use Rattle.vb_parse_expr.specs.Expressions.{Spells, SpellsPrimary, SpellsInitializer}
-use Rattle.vb_parse_expr.specs.Fronts.{IsFront, IsPrimaryFront, IsInitializerFront, Answers, goes_on, goes_on_primary, goes_on_initializer}
-use Rattle.vb_parse_expr.specs.TypeReading.{Read, Gives, and_then, with_array, read_type, read_simple_type, type_step, want_type, most_turns, most_tokens}
-use Rattle.vb_parse_expr.specs.MachineReading.{run, step, want}
-use Rattle.vb_parse_expr.specs.Placing.{Places, expression_at, expression_of, read_expression}
 use Rattle.vb_parse_expr.proofs.TypeRuns as types
 use Rattle.vb_parse_expr.proofs.Runs as runs
-use Rattle.vb_parse_expr.proofs.TypeFronts.{FoundType, FoundSimpleType, type_found, simple_type_found}
-use Rattle.vb_parse_expr.proofs.Sound.{FoundPrimary, FoundExpression, FoundInitializer, primary_found, expression_found, initializer_found}
-use Rattle.vb_parse_expr.proofs.Complete.{expression_read}
+use Rattle.vb_parse_expr.proofs.{TypeFronts.{FoundType, FoundSimpleType, type_found, simple_type_found}, Sound.{FoundPrimary, FoundExpression, FoundInitializer, primary_found, expression_found, initializer_found}, Complete.expression_read}
 use Rattle.vb_parse_expr.proofs.Readings as readings
 
 -- A FRONT AND THE REST, BY A COUNT

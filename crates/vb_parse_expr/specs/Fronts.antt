@@ -2,17 +2,11 @@
 use Rattle.std.specs.Prelude.{◌≡◌, ℕ, ◌-◌, ◌≤◌, Bool, true, false, ◌||◌, List, [], ◌∷◌, length, take, drop, is_some, Result, Ok, Err, if◌then◌else◌}
 use Rattle.vb_syntax.specs.declared.keyword.Keyword.TheVariants as word
 use Rattle.vb_syntax.specs.declared.symbol.Symbol.TheVariants as sign
-use Rattle.vb_syntax.specs.declared.tokens.Token.{Token}
+use Rattle.vb_syntax.specs.declared.{tokens.{Token.Token, Line.Line}, expression.{Expr.Expr, VariableInitializer.VariableInitializer}}
 use Rattle.vb_syntax.specs.declared.tokens.Token.TheVariants as token
-use Rattle.vb_syntax.specs.declared.tokens.Line.{Line}
-use Rattle.vb_syntax.specs.declared.expression.Expr.{Expr}
-use Rattle.vb_syntax.specs.declared.expression.VariableInitializer.{VariableInitializer}
 use Rattle.vb_syntax.specs.declared.expression.VariableInitializer.TheVariants as init
 use Rattle.vb_diag.specs.declared.refusal.Refusal.{Refusal}
-use Rattle.vb_parse_expr.specs.declared.error.ParseErr.{ParseErr}
-use Rattle.vb_parse_expr.specs.declared.error.ParseErr.TheVariants.{Refused, Memory}
-use Rattle.vb_parse_expr.specs.Words.{name_of, type_of, alone_of, primitive_cast, cast_operator, operator_of, has_unused}
-use Rattle.vb_parse_expr.specs.Expressions.{Edge, Spells, SpellsPrimary, SpellsArguments, SpellsInitializer}
+use Rattle.vb_parse_expr.specs.{declared.error.ParseErr.{ParseErr, TheVariants.{Refused, Memory}}, Words.{name_of, type_of, alone_of, primitive_cast, cast_operator, operator_of, has_unused}, Expressions.{Edge, Spells, SpellsPrimary, SpellsArguments, SpellsInitializer}}
 
 -- AS MANY TOKENS AS CAN BE
 

@@ -1,33 +1,16 @@
 -- How an expression is read: private steps on lists, which the code equals.
 use Rattle.std.specs.Prelude.{◌≡◌, ℕ, zero, suc, Bool, true, false, List, [], ◌∷◌, ◌++◌, length, Option, Some, None, if◌then◌else◌, Result, Ok, Err, nat_lt}
 use Rattle.vb_text.specs.declared.names.Name.{Name}
-use Rattle.vb_syntax.specs.declared.keyword.Keyword.{Keyword}
+use Rattle.vb_syntax.specs.declared.{keyword.Keyword.Keyword, symbol.Symbol.Symbol, tokens.Token.Token, types.{BuiltInTypeName.BuiltInTypeName, PrimitiveTypeName.PrimitiveTypeName, SimpleTypeName.SimpleTypeName}, expression.{UnaryOperator.UnaryOperator, BinaryOperator.BinaryOperator, CastOperator.CastOperator, Expr.Expr, VariableInitializer.VariableInitializer}}
 use Rattle.vb_syntax.specs.declared.keyword.Keyword.TheVariants as word
-use Rattle.vb_syntax.specs.declared.symbol.Symbol.{Symbol}
 use Rattle.vb_syntax.specs.declared.symbol.Symbol.TheVariants as sign
-use Rattle.vb_syntax.specs.declared.tokens.Token.{Token}
 use Rattle.vb_syntax.specs.declared.tokens.Token.TheVariants as token
-use Rattle.vb_syntax.specs.declared.types.BuiltInTypeName.{BuiltInTypeName}
-use Rattle.vb_syntax.specs.declared.types.PrimitiveTypeName.{PrimitiveTypeName}
-use Rattle.vb_syntax.specs.declared.types.SimpleTypeName.{SimpleTypeName}
-use Rattle.vb_syntax.specs.declared.expression.UnaryOperator.{UnaryOperator}
-use Rattle.vb_syntax.specs.declared.expression.BinaryOperator.{BinaryOperator}
-use Rattle.vb_syntax.specs.declared.expression.CastOperator.{CastOperator}
-use Rattle.vb_syntax.specs.declared.expression.Expr.{Expr}
 use Rattle.vb_syntax.specs.declared.expression.Expr.TheVariants as e
-use Rattle.vb_syntax.specs.declared.expression.VariableInitializer.{VariableInitializer}
 use Rattle.vb_syntax.specs.declared.expression.VariableInitializer.TheVariants as init
-use Rattle.vb_parse_expr.specs.declared.pending.Pending.{Pending}
+use Rattle.vb_parse_expr.specs.{declared.{pending.{Pending.Pending, Goal.Goal}, fault.Fault.{Fault, TheVariants.Memory}, machine.State.State}, Words.{type_of, primitive_cast, cast_operator, prefix_of, operator_of}, Reading.{after_opening, after_closing, after_opening_brace, after_closing_brace, after_comma, after_dot, after_is}, TypeReading.{Read, and_then, behind, popped, read_name, read_type_arguments, read_simple_type, read_type}}
 use Rattle.vb_parse_expr.specs.declared.pending.Pending.TheVariants as wait
-use Rattle.vb_parse_expr.specs.declared.pending.Goal.{Goal}
 use Rattle.vb_parse_expr.specs.declared.pending.Goal.TheVariants as for
-use Rattle.vb_parse_expr.specs.declared.fault.Fault.{Fault}
-use Rattle.vb_parse_expr.specs.declared.fault.Fault.TheVariants.{Memory}
-use Rattle.vb_parse_expr.specs.declared.machine.State.{State}
 use Rattle.vb_parse_expr.specs.declared.machine.State.TheVariants as at
-use Rattle.vb_parse_expr.specs.Words.{type_of, primitive_cast, cast_operator, prefix_of, operator_of}
-use Rattle.vb_parse_expr.specs.Reading.{after_opening, after_closing, after_opening_brace, after_closing_brace, after_comma, after_dot, after_is}
-use Rattle.vb_parse_expr.specs.TypeReading.{Read, and_then, behind, popped, read_name, read_type_arguments, read_simple_type, read_type}
 
 -- what waits, the outer before the inner; then where the reading is, and what is left
 abbrev pub Step : Type 0

@@ -1,19 +1,11 @@
 -- What the private parts of the public calls return, which the code equals.
 use Rattle.std.specs.Prelude.{◌≡◌, ℕ, ◌-◌, List, [], length, Some, None, Result, Ok, Err}
-use Rattle.vb_syntax.specs.declared.tokens.Token.{Token}
-use Rattle.vb_syntax.specs.declared.tokens.Line.{Line}
-use Rattle.vb_syntax.specs.declared.expression.Expr.{Expr}
-use Rattle.vb_syntax.specs.declared.expression.VariableInitializer.{VariableInitializer}
+use Rattle.vb_syntax.specs.declared.{tokens.{Token.Token, Line.Line}, expression.{Expr.Expr, VariableInitializer.VariableInitializer}}
 use Rattle.vb_syntax.specs.declared.expression.VariableInitializer.TheVariants as init
-use Rattle.vb_parse_expr.specs.declared.error.ParseErr.{ParseErr}
-use Rattle.vb_parse_expr.specs.declared.error.ParseErr.TheVariants.{Refused, Memory}
-use Rattle.vb_parse_expr.specs.declared.fault.Fault.{Fault}
+use Rattle.vb_parse_expr.specs.{declared.{error.ParseErr.{ParseErr, TheVariants.{Refused, Memory}}, fault.Fault.Fault}, Fronts.IsRefusalOf, TypeReading.{Read, most_turns}, MachineReading.run}
 use Rattle.vb_parse_expr.specs.declared.fault.Fault.TheVariants as fault
-use Rattle.vb_parse_expr.specs.Fronts.{IsRefusalOf}
 use Rattle.vb_parse_expr.specs.declared.pending.Goal.TheVariants as for
 use Rattle.vb_parse_expr.specs.declared.machine.State.TheVariants as at
-use Rattle.vb_parse_expr.specs.TypeReading.{Read, most_turns}
-use Rattle.vb_parse_expr.specs.MachineReading.{run}
 
 -- the expression that was read, where it wasn't elements in braces
 abbrev pub expression_at : List Token → VariableInitializer → Read Expr

@@ -1,20 +1,11 @@
 -- How the names of types are read: private steps on lists, which the code equals.
 use Rattle.std.specs.Prelude.{◌≡◌, ℕ, zero, suc, List, [], ◌∷◌, ◌++◌, length, Option, Some, None, Result, Ok, Err}
 use Rattle.vb_text.specs.declared.names.Name.{Name}
-use Rattle.vb_syntax.specs.declared.tokens.Token.{Token}
-use Rattle.vb_syntax.specs.declared.types.BuiltInTypeName.{BuiltInTypeName}
-use Rattle.vb_syntax.specs.declared.types.SimpleTypeName.{SimpleTypeName}
+use Rattle.vb_syntax.specs.declared.{tokens.Token.Token, types.{BuiltInTypeName.BuiltInTypeName, SimpleTypeName.SimpleTypeName, TypeName.TypeName}}
 use Rattle.vb_syntax.specs.declared.types.SimpleTypeName.TheVariants as simple
-use Rattle.vb_syntax.specs.declared.types.TypeName.{TypeName}
 use Rattle.vb_syntax.specs.declared.types.TypeName.TheVariants as type_name
-use Rattle.vb_parse_expr.specs.declared.fault.Fault.{Fault}
-use Rattle.vb_parse_expr.specs.declared.fault.Fault.TheVariants.{Memory, Grammar}
-use Rattle.vb_parse_expr.specs.declared.types.OpenName.{OpenName}
-use Rattle.vb_parse_expr.specs.declared.types.TypeState.{TypeState}
+use Rattle.vb_parse_expr.specs.{declared.{fault.Fault.{Fault, TheVariants.{Memory, Grammar}}, types.{OpenName.OpenName, TypeState.TypeState}}, Words.{name_of, type_of}, Types.qualified_by, Reading.{after_opening, after_closing, after_comma, after_dot, after_of}}
 use Rattle.vb_parse_expr.specs.declared.types.TypeState.TheVariants as at
-use Rattle.vb_parse_expr.specs.Words.{name_of, type_of}
-use Rattle.vb_parse_expr.specs.Types.{qualified_by}
-use Rattle.vb_parse_expr.specs.Reading.{after_opening, after_closing, after_comma, after_dot, after_of}
 
 abbrev pub Read : Type 0 → Type 0
 Read A = Option (A × List Token)

@@ -3,13 +3,9 @@ use Rattle.std.specs.Prelude.{◌≡◌, ℕ, ◌≤◌, Bool, true, false, ◌&
 use Rattle.vb_text.specs.declared.names.Name.{Name}
 use Rattle.vb_syntax.specs.declared.keyword.Keyword.TheVariants as word
 use Rattle.vb_syntax.specs.declared.symbol.Symbol.TheVariants as sign
-use Rattle.vb_syntax.specs.declared.tokens.Token.{Token}
+use Rattle.vb_syntax.specs.declared.{tokens.Token.Token, types.{BuiltInTypeName.BuiltInTypeName, QualifiedTypeName.QualifiedTypeName, SimpleTypeName.SimpleTypeName, TypeName.TypeName}}
 use Rattle.vb_syntax.specs.declared.tokens.Token.TheVariants as token
-use Rattle.vb_syntax.specs.declared.types.BuiltInTypeName.{BuiltInTypeName}
-use Rattle.vb_syntax.specs.declared.types.QualifiedTypeName.{QualifiedTypeName}
-use Rattle.vb_syntax.specs.declared.types.SimpleTypeName.{SimpleTypeName}
 use Rattle.vb_syntax.specs.declared.types.SimpleTypeName.TheVariants as simple
-use Rattle.vb_syntax.specs.declared.types.TypeName.{TypeName}
 use Rattle.vb_syntax.specs.declared.types.TypeName.TheVariants as type_name
 use Rattle.vb_parse_expr.specs.Words.{opening, closing, comma, dot, name_of, type_of}
 

@@ -1,24 +1,16 @@
 -- What a single token means in an expression.
 use Rattle.std.specs.Prelude.{ℕ, Bool, true, false, ◌||◌, List, [], ◌∷◌, Option, Some, None}
 use Rattle.vb_text.specs.declared.names.Name.{Name}
-use Rattle.vb_syntax.specs.declared.keyword.Keyword.{Keyword}
+use Rattle.vb_syntax.specs.declared.{keyword.Keyword.Keyword, symbol.Symbol.Symbol, tokens.Token.Token, types.{PrimitiveTypeName.PrimitiveTypeName, BuiltInTypeName.BuiltInTypeName}, expression.{UnaryOperator.UnaryOperator, BinaryOperator.BinaryOperator, CastOperator.CastOperator, Expr.Expr}}
 use Rattle.vb_syntax.specs.declared.keyword.Keyword.TheVariants as word
-use Rattle.vb_syntax.specs.declared.symbol.Symbol.{Symbol}
 use Rattle.vb_syntax.specs.declared.symbol.Symbol.TheVariants as sign
-use Rattle.vb_syntax.specs.declared.tokens.Token.{Token}
 use Rattle.vb_syntax.specs.declared.tokens.Token.TheVariants as token
-use Rattle.vb_syntax.specs.declared.types.PrimitiveTypeName.{PrimitiveTypeName}
 use Rattle.vb_syntax.specs.declared.types.PrimitiveTypeName.TheVariants as primitive
-use Rattle.vb_syntax.specs.declared.types.BuiltInTypeName.{BuiltInTypeName}
 use Rattle.vb_syntax.specs.declared.types.BuiltInTypeName.TheVariants as built_in
-use Rattle.vb_syntax.specs.declared.expression.UnaryOperator.{UnaryOperator}
 use Rattle.vb_syntax.specs.declared.expression.UnaryOperator.TheVariants as unary
-use Rattle.vb_syntax.specs.declared.expression.BinaryOperator.{BinaryOperator}
 use Rattle.vb_syntax.specs.declared.expression.BinaryOperator.TheVariants as binary
 use Rattle.vb_syntax.specs.declared.expression.RelationalOperator.TheVariants as relation
-use Rattle.vb_syntax.specs.declared.expression.CastOperator.{CastOperator}
 use Rattle.vb_syntax.specs.declared.expression.CastOperator.TheVariants as cast
-use Rattle.vb_syntax.specs.declared.expression.Expr.{Expr}
 use Rattle.vb_syntax.specs.declared.expression.Expr.TheVariants as expr
 
 -- SEPARATORS (Visual Basic Language Specification 11.0, 2.5)

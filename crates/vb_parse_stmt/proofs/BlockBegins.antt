@@ -1,12 +1,7 @@
 -- With what an expression begins.
 use Rattle.std.proofs.Common.{◌≡◌, ◌||◌, ℕ, Bool, true, false, List, ◌∷◌, ◌++◌, length, Some, is_some, refl, sym, ap, ◌∙◌}
-use Rattle.vb_syntax.specs.declared.tokens.Token.{Token}
-use Rattle.vb_syntax.specs.declared.expression.UnaryOperator.{UnaryOperator}
-use Rattle.vb_syntax.specs.declared.expression.Expr.{Expr}
-use Rattle.vb_parse_expr.specs.Words.{prefix_of}
-use Rattle.vb_parse_expr.specs.Expressions.{Spells}
-use Rattle.vb_parse_expr.specs.Expressions.Spells.{primary, prefix, binary}
-use Rattle.vb_parse_expr.specs.Fronts.{IsPrimaryFront, begins_primary}
+use Rattle.vb_syntax.specs.declared.{tokens.Token.Token, expression.{UnaryOperator.UnaryOperator, Expr.Expr}}
+use Rattle.vb_parse_expr.specs.{Words.prefix_of, Expressions.{Spells, Spells.{primary, prefix, binary}}, Fronts.{IsPrimaryFront, begins_primary}}
 use Rattle.vb_parse_decl.specs.Parts.{IsExpression}
 use Rattle.vb_parse_decl.proofs.Wholes.{primary_front}
 

@@ -1,17 +1,9 @@
 -- Each item of a block's line begins so that its line may be it.
 use Rattle.std.proofs.Common.{◌≡◌, true, List, Option, Some, None, ap}
 use Rattle.vb_text.specs.declared.names.Name.{Name}
-use Rattle.vb_syntax.specs.declared.tokens.Token.{Token}
-use Rattle.vb_syntax.specs.declared.expression.Expr.{Expr}
-use Rattle.vb_syntax.specs.declared.statement.LoopCondition.{LoopCondition}
-use Rattle.vb_syntax.specs.declared.statement.LoopControlVariable.{LoopControlVariable}
-use Rattle.vb_syntax.specs.declared.statement.CaseItem.{CaseItem}
-use Rattle.vb_syntax.specs.declared.statement.CatchVariable.{CatchVariable}
-use Rattle.vb_syntax.specs.declared.statement.UsingResource.{UsingResource}
+use Rattle.vb_syntax.specs.declared.{tokens.Token.Token, expression.Expr.Expr, statement.{LoopCondition.LoopCondition, LoopControlVariable.LoopControlVariable, CaseItem.CaseItem, CatchVariable.CatchVariable, UsingResource.UsingResource}, words.Context.Context}
 use Rattle.vb_syntax.specs.declared.item.Item.TheVariants as item
-use Rattle.vb_syntax.specs.declared.words.Context.{Context}
-use Rattle.vb_parse_stmt.specs.Items.{IsOtherItem}
-use Rattle.vb_parse_stmt.specs.Reading.{front_of, may_begin}
+use Rattle.vb_parse_stmt.specs.{Items.IsOtherItem, Reading.{front_of, may_begin}}
 
 pub if_first : (c : Context) (ts : List Token) (x : Expr) → IsOtherItem c ts (item.If x) → may_begin (front_of c ts) (item.If x) ≡ true
 if_first c ts x (us, split, p) = ap (λ (ws : List Token). may_begin (front_of c ws) (item.If x)) split

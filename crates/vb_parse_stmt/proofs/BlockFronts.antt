@@ -1,16 +1,10 @@
 -- What stands behind the word that a line of a block begins with.
 use Rattle.std.proofs.Common.{List, drop, Option, sym, ap, subst}
-use Rattle.vb_syntax.specs.declared.keyword.Keyword.{Keyword}
-use Rattle.vb_syntax.specs.declared.tokens.Token.{Token}
-use Rattle.vb_syntax.specs.declared.expression.Expr.{Expr}
-use Rattle.vb_syntax.specs.declared.statement.LoopCondition.{LoopCondition}
-use Rattle.vb_syntax.specs.declared.item.Item.{Item}
+use Rattle.vb_syntax.specs.declared.{keyword.Keyword.Keyword, tokens.Token.Token, expression.Expr.Expr, statement.LoopCondition.LoopCondition, item.Item.Item, words.Context.Context}
 use Rattle.vb_syntax.specs.declared.item.Item.TheVariants as item
-use Rattle.vb_syntax.specs.declared.words.Context.{Context}
 use Rattle.vb_parse_stmt.specs.declared.front.Front.TheVariants as front
 use Rattle.vb_parse_decl.specs.Parts.{IsExpression, IsOptional, Begins}
-use Rattle.vb_parse_stmt.specs.Statements.{IsTest, IsCondition}
-use Rattle.vb_parse_stmt.specs.Reading.{IsItemFrom}
+use Rattle.vb_parse_stmt.specs.{Statements.{IsTest, IsCondition}, Reading.IsItemFrom}
 
 pub behind_word : (w : Keyword) (P : List Token → Type 0) (ts : List Token) → Begins w P ts → P (drop 1 ts)
 behind_word w P ts (us, split, p) = subst P (sym (ap (λ (vs : List Token). drop 1 vs) split)) p

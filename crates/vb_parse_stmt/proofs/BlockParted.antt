@@ -8,8 +8,7 @@ use Rattle.vb_syntax.specs.declared.tokens.Token.{Token}
 use Rattle.vb_parse_expr.specs.TypeReading.{most_tokens}
 use Rattle.vb_parse_decl.specs.Parts.{IsParted}
 use Rattle.vb_parse_stmt.specs.BlockParts.{StandsFrom}
-use Rattle.vb_parse_decl.proofs.Parted.{cut_place, first_dropped, rest_dropped}
-use Rattle.vb_parse_decl.proofs.Refusals.{OneFront}
+use Rattle.vb_parse_decl.proofs.{Parted.{cut_place, first_dropped, rest_dropped}, Refusals.OneFront}
 
 -- where the token stands at a place, it is the first from there on
 pub dropped_at : (tokens : List Token) (at : ℕ) (t : Token) → slice_get tokens at ≡ Some t → drop at tokens ≡ t ∷ drop (at + 1) tokens

@@ -1,33 +1,15 @@
 -- Two readings of a block's line as an item of one form are the same.
 use Rattle.std.proofs.Common.{◌≡◌, inl, inr, ◌≤◌, List, [], ◌∷◌, ◌++◌, length, Option, Some, None, refl, ap, subst, ◌∙◌, arith, length-append}
 use Rattle.vb_text.specs.declared.names.Name.{Name}
-use Rattle.vb_syntax.specs.declared.keyword.Keyword.{Keyword}
+use Rattle.vb_syntax.specs.declared.{keyword.Keyword.Keyword, tokens.Token.Token, expression.Expr.Expr, statement.{LoopCondition.LoopCondition, LoopControlVariable.LoopControlVariable, CatchVariable.CatchVariable}, words.{ContextualWords.ContextualWords, Context.Context}}
 use Rattle.vb_syntax.specs.declared.keyword.Keyword.TheVariants as word
-use Rattle.vb_syntax.specs.declared.tokens.Token.{Token}
-use Rattle.vb_syntax.specs.declared.expression.Expr.{Expr}
-use Rattle.vb_syntax.specs.declared.statement.LoopCondition.{LoopCondition}
 use Rattle.vb_syntax.specs.declared.statement.LoopCondition.TheVariants as condition
-use Rattle.vb_syntax.specs.declared.statement.LoopControlVariable.{LoopControlVariable}
-use Rattle.vb_syntax.specs.declared.statement.CatchVariable.{CatchVariable}
-use Rattle.vb_syntax.specs.declared.words.ContextualWords.{ContextualWords}
 use Rattle.vb_syntax.specs.declared.item.Item.TheVariants as item
-use Rattle.vb_syntax.specs.declared.words.Context.{Context}
-use Rattle.vb_parse_expr.specs.Words.{name_of}
-use Rattle.vb_parse_expr.specs.Types.{IsTypeFront}
-use Rattle.vb_parse_expr.specs.Fronts.{IsFront}
-use Rattle.vb_parse_expr.specs.TypeReading.{most_tokens}
+use Rattle.vb_parse_expr.specs.{Words.name_of, Types.IsTypeFront, Fronts.IsFront, TypeReading.most_tokens}
 use Rattle.vb_parse_decl.specs.Parts.{reserved, equal, IsExpression, IsOptional, Begins}
-use Rattle.vb_parse_stmt.specs.Statements.{IsTest, IsCondition, IsVariable, IsLimit, IsRange, IsCatchVariable}
-use Rattle.vb_parse_stmt.specs.Items.{IsOtherItem}
-use Rattle.vb_parse_stmt.specs.BlockParts.{IsVariableFront, IsCatchVariableFront, IsCounted, IsEach, IsCaughtPair}
-use Rattle.vb_parse_decl.proofs.Wholes.{expression_front}
-use Rattle.vb_parse_decl.proofs.Refusals.{OneFront}
-use Rattle.vb_parse_stmt.proofs.BlockBegins.{PrimaryBegins, begins_not}
-use Rattle.vb_parse_stmt.proofs.BlockParted.{OneWhole, parted_same, no_whole_parted}
-use Rattle.vb_parse_stmt.proofs.BranchRefusals.{test_before}
-use Rattle.vb_parse_stmt.proofs.LoopVariables.{variable_one, catch_variable_one, name_same}
-use Rattle.vb_parse_stmt.proofs.LoopRefusals.{expression_ended, variable_in, variable_equal}
-use Rattle.vb_parse_stmt.proofs.GuardRefusals.{variable_when, catch_variable_front}
+use Rattle.vb_parse_stmt.specs.{Statements.{IsTest, IsCondition, IsVariable, IsLimit, IsRange, IsCatchVariable}, Items.IsOtherItem, BlockParts.{IsVariableFront, IsCatchVariableFront, IsCounted, IsEach, IsCaughtPair}}
+use Rattle.vb_parse_decl.proofs.{Wholes.expression_front, Refusals.OneFront}
+use Rattle.vb_parse_stmt.proofs.{BlockBegins.{PrimaryBegins, begins_not}, BlockParted.{OneWhole, parted_same, no_whole_parted}, BranchRefusals.test_before, LoopVariables.{variable_one, catch_variable_one, name_same}, LoopRefusals.{expression_ended, variable_in, variable_equal}, GuardRefusals.{variable_when, catch_variable_front}}
 
 -- PARTS
 

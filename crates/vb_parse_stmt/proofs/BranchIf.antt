@@ -3,16 +3,11 @@ use Rattle.std.proofs.Common.{◌≡◌, inl, inr, ℕ, ◌≤◌, List, [], ◌
 use Rattle.std.proofs.Math.Seq.{drop-append_seam}
 use Rattle.std.proofs.lemmas.List.{append_assoc, append-nil, take-append-drop}
 use Rattle.vb_syntax.specs.declared.keyword.Keyword.TheVariants as word
-use Rattle.vb_syntax.specs.declared.tokens.Token.{Token}
-use Rattle.vb_syntax.specs.declared.expression.Expr.{Expr}
-use Rattle.vb_parse_expr.specs.Words.{opening, closing, comma, dot, name_of, type_of, alone_of, primitive_cast, cast_operator, prefix_of}
-use Rattle.vb_parse_expr.specs.Expressions.{Edge, Spells, SpellsPrimary}
-use Rattle.vb_parse_expr.specs.Fronts.{IsFront, IsPrimaryFront}
-use Rattle.vb_parse_expr.specs.TypeReading.{most_tokens}
+use Rattle.vb_syntax.specs.declared.{tokens.Token.Token, expression.Expr.Expr}
+use Rattle.vb_parse_expr.specs.{Words.{opening, closing, comma, dot, name_of, type_of, alone_of, primitive_cast, cast_operator, prefix_of}, Expressions.{Edge, Spells, SpellsPrimary}, Fronts.{IsFront, IsPrimaryFront}, TypeReading.most_tokens}
 use Rattle.vb_parse_decl.specs.Parts.{reserved, IsExpression, Begins}
 use Rattle.vb_parse_stmt.specs.Statements.{IsTest}
-use Rattle.vb_parse_decl.proofs.Parted.{expression_before}
-use Rattle.vb_parse_decl.proofs.Refusals.{OneFront}
+use Rattle.vb_parse_decl.proofs.{Parted.expression_before, Refusals.OneFront}
 
 -- an expression, and this token behind it
 abbrev HasExpression : Token → List Token → Type 0

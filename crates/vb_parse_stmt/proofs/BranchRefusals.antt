@@ -3,32 +3,15 @@ use Rattle.std.proofs.Common.{◌≡◌, ◌&&◌, ◌==◌, Bool, true, false, 
 use Rattle.std.specs.List.{slice_get}
 use Rattle.std.proofs.Math.Seq.{take-length}
 use Rattle.vb_syntax.specs.declared.keyword.Keyword.TheVariants as word
-use Rattle.vb_syntax.specs.declared.keyword.Keyword.{Keyword}
-use Rattle.vb_syntax.specs.declared.tokens.Token.{Token}
+use Rattle.vb_syntax.specs.declared.{keyword.Keyword.Keyword, tokens.{Token.Token, Line.Line}, expression.Expr.Expr, item.Item.Item, words.Context.Context}
 use Rattle.vb_syntax.specs.declared.tokens.Token.TheVariants as token
-use Rattle.vb_syntax.specs.declared.tokens.Line.{Line}
-use Rattle.vb_parse_expr.specs.declared.error.ParseErr.{ParseErr}
-use Rattle.vb_parse_expr.specs.declared.error.ParseErr.TheVariants.{Refused, Memory}
-use Rattle.vb_parse_stmt.specs.Items.{BeginsYield}
-use Rattle.vb_parse_decl.specs.Answers.{Tells}
-use Rattle.vb_parse_stmt.specs.SimpleLines.{IsPrimaryLine}
-use Rattle.vb_syntax.specs.declared.expression.Expr.{Expr}
-use Rattle.vb_syntax.specs.declared.item.Item.{Item}
+use Rattle.vb_parse_expr.specs.{declared.error.ParseErr.{ParseErr, TheVariants.{Refused, Memory}}, Expressions.Spells, Fronts.IsFront, TypeReading.most_tokens}
+use Rattle.vb_parse_stmt.specs.{Items.BeginsYield, SimpleLines.IsPrimaryLine, Statements.IsTest, BlockParts.EndsTest, Reading.{IsItemFrom, front_of, word_front}}
+use Rattle.vb_parse_decl.specs.{Answers.Tells, Parts.{reserved, IsExpression}}
 use Rattle.vb_syntax.specs.declared.item.Item.TheVariants as item
-use Rattle.vb_syntax.specs.declared.words.Context.{Context}
 use Rattle.vb_parse_stmt.specs.declared.front.Front.TheVariants as front
-use Rattle.vb_parse_expr.specs.Expressions.{Spells}
-use Rattle.vb_parse_expr.specs.Fronts.{IsFront}
-use Rattle.vb_parse_expr.specs.TypeReading.{most_tokens}
-use Rattle.vb_parse_decl.specs.Parts.{reserved, IsExpression}
-use Rattle.vb_parse_stmt.specs.Statements.{IsTest}
-use Rattle.vb_parse_stmt.specs.BlockParts.{EndsTest}
-use Rattle.vb_parse_stmt.specs.Reading.{IsItemFrom, front_of, word_front}
-use Rattle.vb_parse_stmt.proofs.BlockBegins.{PrimaryBegins, begins_not}
-use Rattle.vb_parse_stmt.proofs.BlockParted.{none_left, dropped_at}
-use Rattle.vb_parse_decl.proofs.Wholes.{expression_front}
-use Rattle.vb_parse_decl.proofs.Parted.{expression_before, cut, cut_place, first_dropped}
-use Rattle.vb_parse_decl.proofs.Refusals.{OneFront, no_expression}
+use Rattle.vb_parse_stmt.proofs.{BlockBegins.{PrimaryBegins, begins_not}, BlockParted.{none_left, dropped_at}}
+use Rattle.vb_parse_decl.proofs.{Wholes.expression_front, Parted.{expression_before, cut, cut_place, first_dropped}, Refusals.{OneFront, no_expression}}
 
 -- TESTS
 

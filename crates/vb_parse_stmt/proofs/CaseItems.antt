@@ -2,26 +2,15 @@
 use Rattle.std.proofs.Common.{◌≡◌, ◌⊎◌, inl, inr, ℕ, ◌+◌, ◌-◌, ◌≤◌, ◌<◌, Bool, true, false, List, [], ◌∷◌, ◌++◌, length, take, drop, Option, Some, None, refl, sym, ap, subst, ◌∙◌, arith, length-drop}
 use Rattle.std.proofs.lemmas.List.{take-append-drop, drop-drop, length-take-le}
 use Rattle.vb_syntax.specs.declared.keyword.Keyword.TheVariants as word
-use Rattle.vb_syntax.specs.declared.symbol.Symbol.{Symbol}
+use Rattle.vb_syntax.specs.declared.{symbol.Symbol.Symbol, tokens.Token.Token, expression.{RelationalOperator.RelationalOperator, Expr.Expr}, statement.CaseItem.CaseItem}
 use Rattle.vb_syntax.specs.declared.symbol.Symbol.TheVariants as sign
-use Rattle.vb_syntax.specs.declared.tokens.Token.{Token}
 use Rattle.vb_syntax.specs.declared.tokens.Token.TheVariants as token
-use Rattle.vb_syntax.specs.declared.expression.RelationalOperator.{RelationalOperator}
 use Rattle.vb_syntax.specs.declared.expression.RelationalOperator.TheVariants as relation
-use Rattle.vb_syntax.specs.declared.expression.Expr.{Expr}
-use Rattle.vb_syntax.specs.declared.statement.CaseItem.{CaseItem}
 use Rattle.vb_syntax.specs.declared.statement.CaseItem.TheVariants as case_item
-use Rattle.vb_parse_expr.specs.TypeReading.{most_tokens}
-use Rattle.vb_parse_expr.specs.Fronts.{IsFront}
-use Rattle.vb_parse_decl.specs.Parts.{reserved, IsExpression}
-use Rattle.vb_parse_stmt.specs.Statements.{relation_sign, IsRelation, IsCaseItem}
-use Rattle.vb_parse_decl.specs.DeclaredReading.{IsPartAt, is_over}
-use Rattle.vb_parse_stmt.specs.CaseReading.{relation_of, relation_front, relation_size, is_to}
-use Rattle.vb_parse_decl.proofs.Refusals.{OneFront}
-use Rattle.vb_parse_decl.proofs.DeclaredParts.{OnePart, EndsExpressions, part_before, one_part, one_expression, expression_at, no_expression_at, dropped_small, dropped_to, next_dropped}
-use Rattle.vb_parse_decl.proofs.DeclaredNames.{cons_part}
-use Rattle.vb_parse_decl.proofs.DeclaredValues.{over_ends}
-use Rattle.vb_parse_decl.proofs.DeclaredDeclarators.{Parting, parting, parted_found}
+use Rattle.vb_parse_expr.specs.{TypeReading.most_tokens, Fronts.IsFront}
+use Rattle.vb_parse_decl.specs.{Parts.{reserved, IsExpression}, DeclaredReading.{IsPartAt, is_over}}
+use Rattle.vb_parse_stmt.specs.{Statements.{relation_sign, IsRelation, IsCaseItem}, CaseReading.{relation_of, relation_front, relation_size, is_to}}
+use Rattle.vb_parse_decl.proofs.{Refusals.OneFront, DeclaredParts.{OnePart, EndsExpressions, part_before, one_part, one_expression, expression_at, no_expression_at, dropped_small, dropped_to, next_dropped}, DeclaredNames.cons_part, DeclaredValues.over_ends, DeclaredDeclarators.{Parting, parting, parted_found}}
 use Rattle.vb_parse_stmt.proofs.BlockBegins.{PrimaryBegins, begins_expression, BeginsExpression, expression_begins}
 
 -- WITH WHAT AN ITEM BEGINS

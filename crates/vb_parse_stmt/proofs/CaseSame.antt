@@ -2,31 +2,15 @@
 use Rattle.std.proofs.Common.{◌≡◌, ℕ, ◌≤◌, ◌<◌, true, List, [], ◌∷◌, length, drop, Some, None, refl, sym, ap, subst, ◌∙◌, arith, length-drop}
 use Rattle.std.specs.List.{slice_get}
 use Rattle.vb_syntax.specs.declared.keyword.Keyword.TheVariants as word
-use Rattle.vb_syntax.specs.declared.tokens.Token.{Token}
-use Rattle.vb_syntax.specs.declared.expression.Expr.{Expr}
-use Rattle.vb_syntax.specs.declared.statement.CaseItem.{CaseItem}
+use Rattle.vb_syntax.specs.declared.{tokens.Token.Token, expression.Expr.Expr, statement.CaseItem.CaseItem, item.Item.Item, words.Context.Context}
 use Rattle.vb_syntax.specs.declared.statement.CaseItem.TheVariants as case_item
-use Rattle.vb_syntax.specs.declared.item.Item.{Item}
 use Rattle.vb_syntax.specs.declared.item.Item.TheVariants as item
-use Rattle.vb_syntax.specs.declared.words.Context.{Context}
 use Rattle.vb_parse_stmt.specs.declared.front.Front.TheVariants as front
-use Rattle.vb_parse_expr.specs.TypeReading.{most_tokens}
-use Rattle.vb_parse_expr.specs.Fronts.{IsFront}
-use Rattle.vb_parse_decl.specs.Parts.{reserved, AreListed}
-use Rattle.vb_parse_stmt.specs.Statements.{IsCaseItem}
-use Rattle.vb_parse_stmt.specs.Items.{IsOtherItem}
-use Rattle.vb_parse_stmt.specs.Reading.{IsItemFrom}
-use Rattle.vb_parse_decl.specs.DeclaredReading.{IsPartAt, is_over, is_end}
-use Rattle.vb_parse_stmt.specs.CaseReading.{relation_front, is_to}
-use Rattle.vb_parse_decl.proofs.Refusals.{OneFront}
-use Rattle.vb_parse_decl.proofs.DeclaredParts.{one_front, part_whole, expression_at}
-use Rattle.vb_parse_decl.proofs.DeclaredLists.{one_list, first_of_list}
-use Rattle.vb_parse_decl.proofs.DeclaredNames.{declarator_ends}
-use Rattle.vb_parse_decl.proofs.DeclaredValues.{over_ends}
-use Rattle.vb_parse_decl.proofs.DeclaredDeclarators.{Readings}
-use Rattle.vb_parse_stmt.proofs.BlockBegins.{PrimaryBegins, begins_expression}
-use Rattle.vb_parse_stmt.proofs.BlockParted.{dropped_at, none_left}
-use Rattle.vb_parse_stmt.proofs.CaseItems.{CaseItemAt, case_item_at, one_case_item, front_begins, relation_within, to_ends}
+use Rattle.vb_parse_expr.specs.{TypeReading.most_tokens, Fronts.IsFront}
+use Rattle.vb_parse_decl.specs.{Parts.{reserved, AreListed}, DeclaredReading.{IsPartAt, is_over, is_end}}
+use Rattle.vb_parse_stmt.specs.{Statements.IsCaseItem, Items.IsOtherItem, Reading.IsItemFrom, CaseReading.{relation_front, is_to}}
+use Rattle.vb_parse_decl.proofs.{Refusals.OneFront, DeclaredParts.{one_front, part_whole, expression_at}, DeclaredLists.{one_list, first_of_list}, DeclaredNames.declarator_ends, DeclaredValues.over_ends, DeclaredDeclarators.Readings}
+use Rattle.vb_parse_stmt.proofs.{BlockBegins.{PrimaryBegins, begins_expression}, BlockParted.{dropped_at, none_left}, CaseItems.{CaseItemAt, case_item_at, one_case_item, front_begins, relation_within, to_ends}}
 
 -- an expression has a token
 front_long : PrimaryBegins → (ts : List Token) (x : Expr) (n : ℕ) → IsFront ts x n → 0 < length ts

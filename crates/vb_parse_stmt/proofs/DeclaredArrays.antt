@@ -1,16 +1,10 @@
 -- A new array in a variable.
 use Rattle.std.proofs.Common.{◌≡◌, ℕ, ◌-◌, ◌≤◌, List, drop, length, refl, sym, ap, ◌∙◌, subst, arith, length-drop}
-use Rattle.vb_syntax.specs.declared.tokens.Token.{Token}
-use Rattle.vb_syntax.specs.declared.expression.Expr.{Expr}
-use Rattle.vb_syntax.specs.declared.item.Item.{Item}
+use Rattle.vb_syntax.specs.declared.{tokens.Token.Token, expression.Expr.Expr, item.Item.Item, words.Context.Context}
 use Rattle.vb_syntax.specs.declared.item.Item.TheVariants as item
-use Rattle.vb_syntax.specs.declared.words.Context.{Context}
-use Rattle.vb_parse_expr.specs.TypeReading.{most_tokens}
-use Rattle.vb_parse_expr.specs.Fronts.{IsFront}
-use Rattle.vb_parse_decl.specs.Declarators.{IsBound}
-use Rattle.vb_parse_decl.specs.DeclaredReading.{IsPartAt, anything}
-use Rattle.vb_parse_decl.proofs.Refusals.{OneFront}
-use Rattle.vb_parse_decl.proofs.DeclaredParts.{one_front, one_bound, part_whole}
+use Rattle.vb_parse_expr.specs.{TypeReading.most_tokens, Fronts.IsFront}
+use Rattle.vb_parse_decl.specs.{Declarators.IsBound, DeclaredReading.{IsPartAt, anything}}
+use Rattle.vb_parse_decl.proofs.{Refusals.OneFront, DeclaredParts.{one_front, one_bound, part_whole}}
 use Rattle.vb_parse_stmt.specs.declared.front.Front.TheVariants as front
 use Rattle.vb_parse_stmt.specs.Reading.{IsItemFrom}
 

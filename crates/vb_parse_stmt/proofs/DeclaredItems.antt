@@ -1,14 +1,10 @@
 -- Lines of declarations.
 use Rattle.std.proofs.Common.{List, drop, sym, ap, subst}
-use Rattle.vb_syntax.specs.declared.tokens.Token.{Token}
-use Rattle.vb_syntax.specs.declared.declarator.Declarator.{Declarator}
+use Rattle.vb_syntax.specs.declared.{tokens.Token.Token, declarator.Declarator.Declarator, item.Item.Item, words.Context.Context}
 use Rattle.vb_syntax.specs.declared.statement.LocalModifier.TheVariants as local
-use Rattle.vb_syntax.specs.declared.item.Item.{Item}
 use Rattle.vb_syntax.specs.declared.item.Item.TheVariants as item
-use Rattle.vb_syntax.specs.declared.words.Context.{Context}
 use Rattle.vb_parse_stmt.specs.declared.front.Front.TheVariants as front
-use Rattle.vb_parse_decl.specs.Parts.{AreListed}
-use Rattle.vb_parse_decl.specs.Declarators.{IsDeclarator}
+use Rattle.vb_parse_decl.specs.{Parts.AreListed, Declarators.IsDeclarator}
 use Rattle.vb_parse_stmt.specs.Reading.{IsItemFrom}
 
 pub no_dim : (c : Context) (tokens : List Token) → ((ds : List Declarator) → AreListed IsDeclarator (drop 1 tokens) ds → ⊥) → (x : Item) → IsItemFrom c front.Dim tokens x → ⊥

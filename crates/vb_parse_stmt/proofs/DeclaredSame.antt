@@ -1,25 +1,13 @@
 -- A line is one declaration at most, and begins as a declaration does.
 use Rattle.std.proofs.Common.{◌≡◌, ◌≤◌, true, List, ◌∷◌, length, Some, refl, sym, ap, subst, ◌∙◌, arith}
 use Rattle.vb_text.specs.declared.names.Name.{Name}
-use Rattle.vb_syntax.specs.declared.tokens.Token.{Token}
-use Rattle.vb_syntax.specs.declared.expression.Expr.{Expr}
-use Rattle.vb_syntax.specs.declared.declarator.Declarator.{Declarator}
-use Rattle.vb_syntax.specs.declared.statement.LocalModifier.{LocalModifier}
+use Rattle.vb_syntax.specs.declared.{tokens.Token.Token, expression.Expr.Expr, declarator.Declarator.Declarator, statement.LocalModifier.LocalModifier, words.Context.Context}
 use Rattle.vb_syntax.specs.declared.statement.LocalModifier.TheVariants as local
 use Rattle.vb_syntax.specs.declared.item.Item.TheVariants as item
-use Rattle.vb_syntax.specs.declared.words.Context.{Context}
-use Rattle.vb_parse_expr.specs.TypeReading.{most_tokens}
-use Rattle.vb_parse_expr.specs.Words.{name_of}
-use Rattle.vb_parse_expr.specs.Fronts.{IsFront}
-use Rattle.vb_parse_decl.specs.Parts.{AreListed, reserved}
-use Rattle.vb_parse_decl.specs.Declarators.{IsBound, IsDeclarator}
-use Rattle.vb_parse_stmt.specs.Statements.{local_word}
-use Rattle.vb_parse_stmt.specs.Items.{IsOtherItem}
-use Rattle.vb_parse_stmt.specs.Reading.{front_of, may_begin}
-use Rattle.vb_parse_decl.specs.DeclaredReading.{anything}
-use Rattle.vb_parse_decl.proofs.Refusals.{OneFront}
-use Rattle.vb_parse_decl.proofs.DeclaredParts.{one_front, one_bound, part_whole}
-use Rattle.vb_parse_decl.proofs.DeclaredDeclarators.{Readings, declarators_same}
+use Rattle.vb_parse_expr.specs.{TypeReading.most_tokens, Words.name_of, Fronts.IsFront}
+use Rattle.vb_parse_decl.specs.{Parts.{AreListed, reserved}, Declarators.{IsBound, IsDeclarator}, DeclaredReading.anything}
+use Rattle.vb_parse_stmt.specs.{Statements.local_word, Items.IsOtherItem, Reading.{front_of, may_begin}}
+use Rattle.vb_parse_decl.proofs.{Refusals.OneFront, DeclaredParts.{one_front, one_bound, part_whole}, DeclaredDeclarators.{Readings, declarators_same}}
 
 pub declaration_first : (c : Context) (ts : List Token) (m : LocalModifier) (ds : List Declarator) → IsOtherItem c ts (item.Declaration m ds)
     → may_begin (front_of c ts) (item.Declaration m ds) ≡ true

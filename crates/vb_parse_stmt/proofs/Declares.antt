@@ -1,18 +1,10 @@
 -- Lines of declarations, and the others.
 use Rattle.std.proofs.Common.{◌≡◌, ◌⊎◌, inl, inr, ◌≤◌, List, length, refl, sym, ap, ◌∙◌}
-use Rattle.vb_syntax.specs.declared.tokens.Token.{Token}
-use Rattle.vb_syntax.specs.declared.item.DeclarationLine.{DeclarationLine}
-use Rattle.vb_syntax.specs.declared.item.Item.{Item}
+use Rattle.vb_syntax.specs.{declared.{tokens.{Token.Token, Line.Line}, item.{DeclarationLine.DeclarationLine, Item.Item}, words.Context.Context}, ContextualWords.OptionsApart}
 use Rattle.vb_syntax.specs.declared.item.Item.TheVariants as item
-use Rattle.vb_syntax.specs.declared.words.Context.{Context}
-use Rattle.vb_syntax.specs.ContextualWords.{OptionsApart}
-use Rattle.vb_syntax.specs.declared.tokens.Line.{Line}
-use Rattle.vb_parse_expr.specs.TypeReading.{most_tokens}
-use Rattle.vb_parse_decl.specs.DeclarationLines.{IsDeclarationLine}
-use Rattle.vb_parse_decl.specs.Answers.{Tells}
+use Rattle.vb_parse_expr.specs.{TypeReading.most_tokens, declared.error.ParseErr.{ParseErr, TheVariants.{Refused, Memory}}}
+use Rattle.vb_parse_decl.specs.{DeclarationLines.IsDeclarationLine, Answers.Tells}
 use Rattle.vb_parse_decl.proofs.DeclaredDeclarators.{Readings}
-use Rattle.vb_parse_expr.specs.declared.error.ParseErr.{ParseErr}
-use Rattle.vb_parse_expr.specs.declared.error.ParseErr.TheVariants.{Refused, Memory}
 use Rattle.std.specs.Prelude.{Result, Ok, Err}
 use Rattle.vb_parse_stmt.specs.Items.{IsItem, IsOtherItem, DeclaresNothing}
 use Rattle.vb_parse_stmt.proofs.ItemSame.{item_same}

@@ -1,16 +1,10 @@
 -- An option line sets one thing at most, where the words of options are apart.
 use Rattle.std.proofs.Common.{◌≡◌, inl, inr, List, refl, ap}
-use Rattle.vb_syntax.specs.declared.tokens.Token.{Token}
-use Rattle.vb_syntax.specs.declared.declaration.OptionSetting.{OptionSetting}
+use Rattle.vb_syntax.specs.{declared.{tokens.Token.Token, declaration.{OptionSetting.OptionSetting, OptionSwitch.OptionSwitch}, words.{Context.Context, ContextualWords.ContextualWords}}, ContextualWords.OptionsApart}
 use Rattle.vb_syntax.specs.declared.declaration.OptionSetting.TheVariants as setting
-use Rattle.vb_syntax.specs.declared.declaration.OptionSwitch.{OptionSwitch}
 use Rattle.vb_syntax.specs.declared.declaration.OptionSwitch.TheVariants as switch
 use Rattle.vb_syntax.specs.declared.item.Item.TheVariants as item
-use Rattle.vb_syntax.specs.declared.words.Context.{Context}
-use Rattle.vb_syntax.specs.declared.words.ContextualWords.{ContextualWords}
-use Rattle.vb_parse_stmt.specs.Statements.{IsSetting, switch_words}
-use Rattle.vb_syntax.specs.ContextualWords.{OptionsApart}
-use Rattle.vb_parse_stmt.specs.Items.{IsOtherItem}
+use Rattle.vb_parse_stmt.specs.{Statements.{IsSetting, switch_words}, Items.IsOtherItem}
 
 switch_same : (words : ContextualWords) (on on' : OptionSwitch) (us vs : List Token) → us ≡ vs → switch_words words on us → switch_words words on' vs → on ≡ on'
 switch_same words switch.On switch.On us vs e p q = refl

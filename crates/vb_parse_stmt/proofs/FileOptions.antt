@@ -3,21 +3,14 @@ use Rattle.std.proofs.Common.{◌≡◌, ◌==◌, ℕ, Bool, true, false, if◌
 use Rattle.std.proofs.lemmas.Bool.{eqb-true}
 use Rattle.vb_text.specs.declared.names.Name.{Name}
 use Rattle.vb_syntax.specs.declared.keyword.Keyword.TheVariants as word
-use Rattle.vb_syntax.specs.declared.tokens.Token.{Token}
+use Rattle.vb_syntax.specs.declared.{tokens.Token.Token, declaration.{OptionSetting.OptionSetting, OptionSwitch.OptionSwitch}, words.{Context.Context, ContextualWords.ContextualWords}}
 use Rattle.vb_syntax.specs.declared.tokens.Token.TheVariants as token
 use Rattle.vb_syntax.specs.declared.item.Item.TheVariants as item
-use Rattle.vb_syntax.specs.declared.declaration.OptionSetting.{OptionSetting}
 use Rattle.vb_syntax.specs.declared.declaration.OptionSetting.TheVariants as setting
-use Rattle.vb_syntax.specs.declared.declaration.OptionSwitch.{OptionSwitch}
 use Rattle.vb_syntax.specs.declared.declaration.OptionSwitch.TheVariants as switch
-use Rattle.vb_syntax.specs.declared.words.Context.{Context}
-use Rattle.vb_syntax.specs.declared.words.ContextualWords.{ContextualWords}
 use Rattle.vb_parse_stmt.specs.declared.front.Front.TheVariants as front
 use Rattle.vb_parse_decl.specs.Parts.{reserved}
-use Rattle.vb_parse_stmt.specs.Statements.{IsSetting, switch_words}
-use Rattle.vb_parse_stmt.specs.Items.{IsOtherItem}
-use Rattle.vb_parse_stmt.specs.Reading.{front_of}
-use Rattle.vb_parse_stmt.specs.FileReading.{switched, compared, option_setting, first_found}
+use Rattle.vb_parse_stmt.specs.{Statements.{IsSetting, switch_words}, Items.IsOtherItem, Reading.front_of, FileReading.{switched, compared, option_setting, first_found}}
 
 name_is : (n m : Name) → (n.index == m.index) ≡ true → n ≡ m
 name_is n m e = ap (λ (i : ℕ). record { index = i }) (eqb-true n.index m.index e)

@@ -1,14 +1,10 @@
 -- A line is one end at most, and lines of the front of a file begin as they do.
 use Rattle.std.proofs.Common.{◌≡◌, true, List, refl, ap}
 use Rattle.vb_text.specs.declared.names.Name.{Name}
-use Rattle.vb_syntax.specs.declared.tokens.Token.{Token}
-use Rattle.vb_syntax.specs.declared.declaration.OptionSetting.{OptionSetting}
-use Rattle.vb_syntax.specs.declared.item.BlockWord.{BlockWord}
+use Rattle.vb_syntax.specs.declared.{tokens.Token.Token, declaration.OptionSetting.OptionSetting, item.BlockWord.BlockWord, words.Context.Context}
 use Rattle.vb_syntax.specs.declared.item.BlockWord.TheVariants as block
 use Rattle.vb_syntax.specs.declared.item.Item.TheVariants as item
-use Rattle.vb_syntax.specs.declared.words.Context.{Context}
-use Rattle.vb_parse_stmt.specs.Items.{IsOtherItem, block_word}
-use Rattle.vb_parse_stmt.specs.Reading.{front_of, may_begin}
+use Rattle.vb_parse_stmt.specs.{Items.{IsOtherItem, block_word}, Reading.{front_of, may_begin}}
 
 pub option_first : (c : Context) (ts : List Token) (s : OptionSetting) → IsOtherItem c ts (item.Option s) → may_begin (front_of c ts) (item.Option s) ≡ true
 option_first c ts s (us, split, p) = ap (λ (vs : List Token). may_begin (front_of c vs) (item.Option s)) split

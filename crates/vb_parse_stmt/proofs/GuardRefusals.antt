@@ -3,25 +3,14 @@ use Rattle.std.proofs.Common.{◌≡◌, ℕ, ◌+◌, ◌-◌, ◌≤◌, ◌<�
 use Rattle.std.specs.List.{slice_get}
 use Rattle.std.proofs.Math.Seq.{take-length}
 use Rattle.vb_syntax.specs.declared.keyword.Keyword.TheVariants as word
-use Rattle.vb_syntax.specs.declared.tokens.Token.{Token}
-use Rattle.vb_syntax.specs.declared.expression.Expr.{Expr}
-use Rattle.vb_syntax.specs.declared.statement.CatchVariable.{CatchVariable}
-use Rattle.vb_syntax.specs.declared.item.Item.{Item}
+use Rattle.vb_syntax.specs.declared.{tokens.Token.Token, expression.Expr.Expr, statement.CatchVariable.CatchVariable, item.Item.Item, words.Context.Context}
 use Rattle.vb_syntax.specs.declared.item.Item.TheVariants as item
-use Rattle.vb_syntax.specs.declared.words.Context.{Context}
 use Rattle.vb_parse_stmt.specs.declared.front.Front.TheVariants as front
-use Rattle.vb_parse_expr.specs.Words.{name_of}
-use Rattle.vb_parse_expr.specs.Types.{IsTypeFront}
-use Rattle.vb_parse_expr.specs.TypeReading.{most_tokens}
+use Rattle.vb_parse_expr.specs.{Words.name_of, Types.IsTypeFront, TypeReading.most_tokens}
 use Rattle.vb_parse_decl.specs.Parts.{reserved, IsExpression}
-use Rattle.vb_parse_stmt.specs.Statements.{IsCatchVariable}
-use Rattle.vb_parse_stmt.specs.Reading.{IsItemFrom}
-use Rattle.vb_parse_stmt.specs.BlockParts.{StandsFrom, IsCatchVariableFront, IsCaughtPair}
-use Rattle.vb_parse_decl.proofs.Wholes.{type_front}
-use Rattle.vb_parse_decl.proofs.Parted.{EndsType, parted_at, first_dropped}
-use Rattle.vb_parse_decl.proofs.Refusals.{OneFront}
-use Rattle.vb_parse_stmt.proofs.BlockParted.{EndedBy, no_left, no_parted, not_whole}
-use Rattle.vb_parse_stmt.proofs.LoopVariables.{catch_variable_ended, catch_variable_taken, catch_variable_one}
+use Rattle.vb_parse_stmt.specs.{Statements.IsCatchVariable, Reading.IsItemFrom, BlockParts.{StandsFrom, IsCatchVariableFront, IsCaughtPair}}
+use Rattle.vb_parse_decl.proofs.{Wholes.type_front, Parted.{EndsType, parted_at, first_dropped}, Refusals.OneFront}
+use Rattle.vb_parse_stmt.proofs.{BlockParted.{EndedBy, no_left, no_parted, not_whole}, LoopVariables.{catch_variable_ended, catch_variable_taken, catch_variable_one}}
 
 -- CATCH
 

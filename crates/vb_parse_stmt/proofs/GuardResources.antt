@@ -4,45 +4,18 @@ use Rattle.std.proofs.Math.Seq.{take-length}
 use Rattle.std.specs.List.{slice_get}
 use Rattle.std.specs.Option.{is_some}
 use Rattle.vb_text.specs.declared.names.Name.{Name}
-use Rattle.vb_syntax.specs.declared.keyword.Keyword.{Keyword}
+use Rattle.vb_syntax.specs.declared.{keyword.Keyword.Keyword, tokens.{Token.Token, Line.Line}, types.{SimpleTypeName.SimpleTypeName, TypeName.TypeName}, expression.{Expr.{Expr, ObjectCreation', out-Expr, out-roll-Expr, TheOpen.Expr-F, TheVariants.rolls-ObjectCreation}, VariableInitializer.VariableInitializer}, statement.UsingResource.UsingResource, item.Item.Item, words.Context.Context}
 use Rattle.vb_syntax.specs.declared.keyword.Keyword.TheVariants as word
-use Rattle.vb_syntax.specs.declared.tokens.Token.{Token}
 use Rattle.vb_syntax.specs.declared.tokens.Token.TheVariants as token
-use Rattle.vb_syntax.specs.declared.types.SimpleTypeName.{SimpleTypeName}
-use Rattle.vb_syntax.specs.declared.types.TypeName.{TypeName}
-use Rattle.vb_syntax.specs.declared.expression.Expr.{Expr, ObjectCreation', out-Expr, out-roll-Expr}
-use Rattle.vb_syntax.specs.declared.expression.Expr.TheOpen.{Expr-F}
-use Rattle.vb_syntax.specs.declared.expression.Expr.TheVariants.{rolls-ObjectCreation}
-use Rattle.vb_syntax.specs.declared.expression.VariableInitializer.{VariableInitializer}
 use Rattle.vb_syntax.specs.declared.expression.Expr.TheVariants as e
-use Rattle.vb_syntax.specs.declared.statement.UsingResource.{UsingResource}
 use Rattle.vb_syntax.specs.declared.statement.UsingResource.TheVariants as resource
-use Rattle.vb_syntax.specs.declared.item.Item.{Item}
 use Rattle.vb_syntax.specs.declared.item.Item.TheVariants as item
-use Rattle.vb_syntax.specs.declared.words.Context.{Context}
 use Rattle.vb_parse_stmt.specs.declared.front.Front.TheVariants as front
-use Rattle.vb_parse_expr.specs.Words.{opening, closing, name_of, type_of, word_alone, alone_of}
-use Rattle.vb_parse_expr.specs.Types.{SpellsNames, SpellsType, SpellsSimpleType, SpellsTypeArguments, IsTypeFront}
-use Rattle.vb_parse_expr.specs.Expressions.{Edge, Spells, SpellsPrimary}
-use Rattle.vb_parse_expr.specs.Fronts.{IsFront, IsPrimaryFront}
-use Rattle.vb_parse_expr.specs.TypeReading.{most_tokens}
-use Rattle.vb_parse_decl.specs.Parts.{reserved, equal, IsExpression, IsPrimary, IsType, Begins, Names, IsParted}
-use Rattle.vb_parse_decl.specs.Declarators.{IsNew}
-use Rattle.vb_parse_stmt.specs.Statements.{IsResource}
-use Rattle.vb_parse_stmt.specs.Reading.{IsItemFrom}
-use Rattle.vb_parse_stmt.specs.BlockParts.{StandsFrom, IsTypedValue, IsUndeclared, Makes, found_name}
-use Rattle.vb_syntax.specs.declared.tokens.Line.{Line}
-use Rattle.vb_parse_expr.specs.declared.error.ParseErr.{ParseErr}
-use Rattle.vb_parse_expr.specs.declared.error.ParseErr.TheVariants.{Refused, Memory}
-use Rattle.vb_parse_stmt.specs.Items.{IsOtherItem}
-use Rattle.vb_parse_decl.specs.Answers.{Tells}
-use Rattle.vb_parse_decl.proofs.Wholes.{expression_front, primary_front}
-use Rattle.vb_parse_decl.proofs.Parted.{type_before, parted_at, first_dropped, rest_dropped}
-use Rattle.vb_parse_decl.proofs.Refusals.{OneFront}
-use Rattle.vb_parse_stmt.proofs.BlockParted.{EndedBy, OneWhole, no_left, no_parted, not_whole, parted_same, dropped_at}
-use Rattle.vb_parse_stmt.proofs.LoopVariables.{name_found, name_same}
-use Rattle.vb_parse_stmt.proofs.LoopRefusals.{type_over_equal}
-use Rattle.vb_parse_stmt.proofs.BlockSame.{expression_same, behind_same, pair_same}
+use Rattle.vb_parse_expr.specs.{Words.{opening, closing, name_of, type_of, word_alone, alone_of}, Types.{SpellsNames, SpellsType, SpellsSimpleType, SpellsTypeArguments, IsTypeFront}, Expressions.{Edge, Spells, SpellsPrimary}, Fronts.{IsFront, IsPrimaryFront}, TypeReading.most_tokens, declared.error.ParseErr.{ParseErr, TheVariants.{Refused, Memory}}}
+use Rattle.vb_parse_decl.specs.{Parts.{reserved, equal, IsExpression, IsPrimary, IsType, Begins, Names, IsParted}, Declarators.IsNew, Answers.Tells}
+use Rattle.vb_parse_stmt.specs.{Statements.IsResource, Reading.IsItemFrom, BlockParts.{StandsFrom, IsTypedValue, IsUndeclared, Makes, found_name}, Items.IsOtherItem}
+use Rattle.vb_parse_decl.proofs.{Wholes.{expression_front, primary_front}, Parted.{type_before, parted_at, first_dropped, rest_dropped}, Refusals.OneFront}
+use Rattle.vb_parse_stmt.proofs.{BlockParted.{EndedBy, OneWhole, no_left, no_parted, not_whole, parted_same, dropped_at}, LoopVariables.{name_found, name_same}, LoopRefusals.type_over_equal, BlockSame.{expression_same, behind_same, pair_same}}
 
 -- A TYPE DOESN'T BEGIN WITH `New`
 

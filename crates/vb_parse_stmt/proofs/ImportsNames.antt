@@ -6,14 +6,10 @@ use Rattle.vb_text.specs.declared.names.Name.{Name}
 use Rattle.vb_syntax.specs.declared.symbol.Symbol.TheVariants as sign
 use Rattle.vb_syntax.specs.declared.tokens.Token.{Token}
 use Rattle.vb_syntax.specs.declared.tokens.Token.TheVariants as token
-use Rattle.vb_parse_expr.specs.TypeReading.{most_tokens}
-use Rattle.vb_parse_expr.specs.Words.{dot, name_of}
-use Rattle.vb_parse_expr.specs.Types.{SpellsNames}
-use Rattle.vb_parse_expr.specs.Types.SpellsNames.{one, more}
+use Rattle.vb_parse_expr.specs.{TypeReading.most_tokens, Words.{dot, name_of}, Types.{SpellsNames, SpellsNames.{one, more}}}
 use Rattle.vb_parse_decl.specs.DeclaredReading.{IsPartAt, is_over, first_name}
 use Rattle.vb_parse_stmt.specs.NamespaceReading.{is_dot}
-use Rattle.vb_parse_decl.proofs.DeclaredParts.{OnePart, part_before, inside, next_dropped}
-use Rattle.vb_parse_decl.proofs.DeclaredNames.{name_first}
+use Rattle.vb_parse_decl.proofs.{DeclaredParts.{OnePart, part_before, inside, next_dropped}, DeclaredNames.name_first}
 
 -- ONE NAMESPACE AT MOST
 

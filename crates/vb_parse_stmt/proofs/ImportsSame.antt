@@ -1,20 +1,13 @@
 -- A line imports one list of namespaces at most.
 use Rattle.std.proofs.Common.{◌≡◌, ℕ, ◌≤◌, ◌<◌, List, length, drop, refl, sym, ap, subst, arith}
 use Rattle.vb_text.specs.declared.names.Name.{Name}
-use Rattle.vb_syntax.specs.declared.tokens.Token.{Token}
-use Rattle.vb_syntax.specs.declared.item.Item.{Item}
+use Rattle.vb_syntax.specs.declared.{tokens.Token.Token, item.Item.Item, words.Context.Context}
 use Rattle.vb_syntax.specs.declared.item.Item.TheVariants as item
-use Rattle.vb_syntax.specs.declared.words.Context.{Context}
 use Rattle.vb_parse_stmt.specs.declared.front.Front.TheVariants as front
-use Rattle.vb_parse_expr.specs.TypeReading.{most_tokens}
-use Rattle.vb_parse_expr.specs.Types.{SpellsNames}
-use Rattle.vb_parse_decl.specs.Parts.{AreListed}
-use Rattle.vb_parse_stmt.specs.Items.{IsOtherItem}
-use Rattle.vb_parse_stmt.specs.Reading.{IsItemFrom}
-use Rattle.vb_parse_decl.specs.DeclaredReading.{IsPartAt, is_over, is_end}
-use Rattle.vb_parse_decl.proofs.DeclaredParts.{one_front, part_whole}
-use Rattle.vb_parse_decl.proofs.DeclaredLists.{one_list, first_of_list}
-use Rattle.vb_parse_decl.proofs.DeclaredNames.{declarator_ends}
+use Rattle.vb_parse_expr.specs.{TypeReading.most_tokens, Types.SpellsNames}
+use Rattle.vb_parse_decl.specs.{Parts.AreListed, DeclaredReading.{IsPartAt, is_over, is_end}}
+use Rattle.vb_parse_stmt.specs.{Items.IsOtherItem, Reading.IsItemFrom}
+use Rattle.vb_parse_decl.proofs.{DeclaredParts.{one_front, part_whole}, DeclaredLists.{one_list, first_of_list}, DeclaredNames.declarator_ends}
 use Rattle.vb_parse_stmt.proofs.ImportsNames.{one_namespace, namespace_long}
 
 pub namespaces_long : (ts : List Token) (s : List (List Name)) (n : ℕ) → IsPartAt is_end (AreListed SpellsNames) ts s n → 0 < length ts

@@ -1,21 +1,11 @@
 -- Each item begins so that its line may be it, and what is told of the items that begin so holds of all.
 use Rattle.std.proofs.Common.{◌≡◌, true, List, Result, Ok, Err, ap, sym, ◌∙◌}
-use Rattle.vb_syntax.specs.declared.tokens.Token.{Token}
-use Rattle.vb_syntax.specs.declared.tokens.Line.{Line}
-use Rattle.vb_syntax.specs.declared.item.Item.{Item}
+use Rattle.vb_syntax.specs.declared.{tokens.{Token.Token, Line.Line}, item.Item.Item, words.Context.Context}
 use Rattle.vb_syntax.specs.declared.item.Item.TheVariants as item
-use Rattle.vb_syntax.specs.declared.words.Context.{Context}
-use Rattle.vb_parse_expr.specs.declared.error.ParseErr.{ParseErr}
-use Rattle.vb_parse_expr.specs.declared.error.ParseErr.TheVariants.{Refused, Memory}
-use Rattle.vb_parse_stmt.specs.declared.front.Front.{Front}
-use Rattle.vb_parse_stmt.specs.Items.{IsOtherItem}
+use Rattle.vb_parse_expr.specs.declared.error.ParseErr.{ParseErr, TheVariants.{Refused, Memory}}
+use Rattle.vb_parse_stmt.specs.{declared.front.Front.Front, Items.IsOtherItem, Reading.{front_of, may_begin, IsItemFrom}}
 use Rattle.vb_parse_decl.specs.Answers.{Tells}
-use Rattle.vb_parse_stmt.specs.Reading.{front_of, may_begin, IsItemFrom}
-use Rattle.vb_parse_stmt.proofs.FileSame.{option_first, imports_first, end_first}
-use Rattle.vb_parse_stmt.proofs.DeclaredSame.{declaration_first, redim_first}
-use Rattle.vb_parse_stmt.proofs.SimpleFirsts.{PrimaryBegins, assignment_first, compound_first, invocation_first, throw_first, yield_first, return_first, add_handler_first, remove_handler_first, raise_event_first}
-use Rattle.vb_parse_stmt.proofs.JumpFirsts.{go_to_first, exit_first, continue_first, on_error_first, resume_first}
-use Rattle.vb_parse_stmt.proofs.BlockFirsts.{if_first, else_if_first, else_first, while_first, do_first, loop_first, for_first, for_each_first, next_first, select_first, case_first, case_else_first, try_first, catch_first, finally_first, sync_lock_first, with_first, using_first}
+use Rattle.vb_parse_stmt.proofs.{FileSame.{option_first, imports_first, end_first}, DeclaredSame.{declaration_first, redim_first}, SimpleFirsts.{PrimaryBegins, assignment_first, compound_first, invocation_first, throw_first, yield_first, return_first, add_handler_first, remove_handler_first, raise_event_first}, JumpFirsts.{go_to_first, exit_first, continue_first, on_error_first, resume_first}, BlockFirsts.{if_first, else_if_first, else_first, while_first, do_first, loop_first, for_first, for_each_first, next_first, select_first, case_first, case_else_first, try_first, catch_first, finally_first, sync_lock_first, with_first, using_first}}
 
 pub may_begin_all : PrimaryBegins → (c : Context) (ts : List Token) (x : Item) → IsOtherItem c ts x → may_begin (front_of c ts) x ≡ true
 may_begin_all begins c ts (item.Option s) is = option_first c ts s is

@@ -1,42 +1,14 @@
 -- A line that begins with a word of its own is one item at most.
 use Rattle.std.proofs.Common.{◌≡◌, ◌≤◌, true, List, length, Option, refl, ap}
 use Rattle.vb_text.specs.declared.names.Name.{Name}
-use Rattle.vb_syntax.specs.declared.tokens.Token.{Token}
-use Rattle.vb_syntax.specs.declared.expression.Expr.{Expr}
-use Rattle.vb_syntax.specs.declared.declarator.Declarator.{Declarator}
-use Rattle.vb_syntax.specs.declared.declaration.OptionSetting.{OptionSetting}
-use Rattle.vb_syntax.specs.declared.statement.LocalModifier.{LocalModifier}
+use Rattle.vb_syntax.specs.{declared.{tokens.Token.Token, expression.Expr.Expr, declarator.Declarator.Declarator, declaration.OptionSetting.OptionSetting, statement.{LocalModifier.LocalModifier, ExitKind.ExitKind, ContinueKind.ContinueKind, OnErrorAction.OnErrorAction, ResumePlace.ResumePlace, LoopCondition.LoopCondition, LoopControlVariable.LoopControlVariable, CaseItem.CaseItem, CatchVariable.CatchVariable, UsingResource.UsingResource}, item.{BlockWord.BlockWord, Item.Item}, words.Context.Context}, ContextualWords.OptionsApart}
 use Rattle.vb_syntax.specs.declared.statement.LocalModifier.TheVariants as local
-use Rattle.vb_syntax.specs.declared.statement.ExitKind.{ExitKind}
-use Rattle.vb_syntax.specs.declared.statement.ContinueKind.{ContinueKind}
-use Rattle.vb_syntax.specs.declared.statement.OnErrorAction.{OnErrorAction}
-use Rattle.vb_syntax.specs.declared.statement.ResumePlace.{ResumePlace}
-use Rattle.vb_syntax.specs.declared.statement.LoopCondition.{LoopCondition}
-use Rattle.vb_syntax.specs.declared.statement.LoopControlVariable.{LoopControlVariable}
-use Rattle.vb_syntax.specs.declared.statement.CaseItem.{CaseItem}
-use Rattle.vb_syntax.specs.declared.statement.CatchVariable.{CatchVariable}
-use Rattle.vb_syntax.specs.declared.statement.UsingResource.{UsingResource}
-use Rattle.vb_syntax.specs.declared.item.BlockWord.{BlockWord}
-use Rattle.vb_syntax.specs.declared.item.Item.{Item}
 use Rattle.vb_syntax.specs.declared.item.Item.TheVariants as item
-use Rattle.vb_syntax.specs.declared.words.Context.{Context}
-use Rattle.vb_parse_stmt.specs.declared.front.Front.{Front}
+use Rattle.vb_parse_stmt.specs.{declared.front.Front.Front, Statements.local_word, Items.IsOtherItem, Reading.{word_front, may_begin}}
 use Rattle.vb_parse_stmt.specs.declared.front.Front.TheVariants as front
 use Rattle.vb_parse_expr.specs.TypeReading.{most_tokens}
-use Rattle.vb_parse_stmt.specs.Statements.{local_word}
-use Rattle.vb_syntax.specs.ContextualWords.{OptionsApart}
-use Rattle.vb_parse_stmt.specs.Items.{IsOtherItem}
-use Rattle.vb_parse_stmt.specs.Reading.{word_front, may_begin}
 use Rattle.vb_parse_decl.proofs.DeclaredDeclarators.{Readings}
-use Rattle.vb_parse_stmt.proofs.FileOptionSame.{option_same}
-use Rattle.vb_parse_stmt.proofs.ImportsSame.{imports_same}
-use Rattle.vb_parse_stmt.proofs.FileSame.{end_same}
-use Rattle.vb_parse_stmt.proofs.DeclaredSame.{declaration_same, redim_same}
-use Rattle.vb_parse_stmt.proofs.SimpleSame.{add_handler_same, raise_event_same, remove_handler_same, return_same, throw_same, yield_same}
-use Rattle.vb_parse_stmt.proofs.JumpSame.{continue_same, exit_same, go_to_same, on_error_same, resume_same}
-use Rattle.vb_parse_stmt.proofs.BlockSame.{catch_same, do_same, else_if_same, for_each_same, for_not_each, for_same, loop_same, next_same, select_same, sync_lock_same, while_same, with_same}
-use Rattle.vb_parse_stmt.proofs.CaseSame.{case_not_else, case_same}
-use Rattle.vb_parse_stmt.proofs.GuardResources.{using_same}
+use Rattle.vb_parse_stmt.proofs.{FileOptionSame.option_same, ImportsSame.imports_same, FileSame.end_same, DeclaredSame.{declaration_same, redim_same}, SimpleSame.{add_handler_same, raise_event_same, remove_handler_same, return_same, throw_same, yield_same}, JumpSame.{continue_same, exit_same, go_to_same, on_error_same, resume_same}, BlockSame.{catch_same, do_same, else_if_same, for_each_same, for_not_each, for_same, loop_same, next_same, select_same, sync_lock_same, while_same, with_same}, CaseSame.{case_not_else, case_same}, GuardResources.using_same}
 
 -- each item of a line that begins so is this one
 abbrev pub OneItem : Context → List Token → Front → Item → Type 0

@@ -1,32 +1,15 @@
 -- A line is one item at most, where the words of options are different names.
 use Rattle.std.proofs.Common.{◌≡◌, inl, inr, ◌≤◌, Bool, true, false, List, length, Some, None, refl, ap, sym, ◌∙◌}
-use Rattle.vb_syntax.specs.declared.tokens.Token.{Token}
-use Rattle.vb_syntax.specs.declared.expression.Expr.{Expr}
-use Rattle.vb_syntax.specs.declared.statement.CompoundOperator.{CompoundOperator}
-use Rattle.vb_syntax.specs.declared.item.Item.{Item}
+use Rattle.vb_syntax.specs.{declared.{tokens.Token.Token, expression.Expr.Expr, statement.CompoundOperator.CompoundOperator, item.Item.Item, words.Context.Context, keyword.Keyword.Keyword}, ContextualWords.OptionsApart}
 use Rattle.vb_syntax.specs.declared.item.Item.TheVariants as item
-use Rattle.vb_syntax.specs.declared.words.Context.{Context}
-use Rattle.vb_parse_stmt.specs.declared.front.Front.{Front}
+use Rattle.vb_parse_stmt.specs.{declared.front.Front.Front, Statements.{local_word, compound_sign}, Items.IsOtherItem, Reading.{word_front, front_of, may_begin}}
 use Rattle.vb_parse_stmt.specs.declared.front.Front.TheVariants as front
 use Rattle.vb_parse_expr.specs.TypeReading.{most_tokens}
-use Rattle.vb_parse_stmt.specs.Statements.{local_word, compound_sign}
-use Rattle.vb_syntax.specs.ContextualWords.{OptionsApart}
-use Rattle.vb_parse_stmt.specs.Items.{IsOtherItem}
-use Rattle.vb_parse_stmt.specs.Reading.{word_front, front_of, may_begin}
-use Rattle.vb_parse_decl.proofs.DeclaredDeclarators.{Readings}
-use Rattle.vb_syntax.specs.declared.keyword.Keyword.{Keyword}
+use Rattle.vb_parse_decl.proofs.{DeclaredDeclarators.Readings, Wholes.primary_front, Parted.primary_of_parted}
 use Rattle.vb_syntax.specs.declared.keyword.Keyword.TheVariants as word
 use Rattle.vb_syntax.specs.declared.tokens.Token.TheVariants as token
 use Rattle.vb_parse_decl.specs.Parts.{equal, Begins, IsExpression, IsPrimary}
-use Rattle.vb_parse_decl.proofs.Wholes.{primary_front}
-use Rattle.vb_parse_decl.proofs.Parted.{primary_of_parted}
-use Rattle.vb_parse_stmt.proofs.SimpleRefusals.{compound_ends}
-use Rattle.vb_parse_stmt.proofs.SimpleFirsts.{IsOpen, primary_first, yield_front}
-use Rattle.vb_parse_stmt.proofs.SimpleSame.{assignment_same, compound_same, invocation_same, assignment_no_compound, invocation_no_assignment, invocation_no_compound}
-use Rattle.vb_parse_stmt.proofs.BlockSame.{if_same}
-use Rattle.vb_parse_stmt.proofs.BranchIf.{if_not_primary}
-use Rattle.vb_parse_stmt.proofs.ItemFirsts.{may_begin_all, begins_so}
-use Rattle.vb_parse_stmt.proofs.ItemLines.{OneItem, option_line, imports_line, end_line, declaration_line, redim_line, throw_line, yield_line, return_line, go_to_line, exit_line, continue_line, on_error_line, resume_line, add_handler_line, remove_handler_line, raise_event_line, else_if_line, else_line, while_line, do_line, loop_line, for_line, for_each_line, next_line, select_line, case_line, case_else_line, try_line, catch_line, finally_line, sync_lock_line, with_line, using_line}
+use Rattle.vb_parse_stmt.proofs.{SimpleRefusals.compound_ends, SimpleFirsts.{IsOpen, primary_first, yield_front}, SimpleSame.{assignment_same, compound_same, invocation_same, assignment_no_compound, invocation_no_assignment, invocation_no_compound}, BlockSame.if_same, BranchIf.if_not_primary, ItemFirsts.{may_begin_all, begins_so}, ItemLines.{OneItem, option_line, imports_line, end_line, declaration_line, redim_line, throw_line, yield_line, return_line, go_to_line, exit_line, continue_line, on_error_line, resume_line, add_handler_line, remove_handler_line, raise_event_line, else_if_line, else_line, while_line, do_line, loop_line, for_line, for_each_line, next_line, select_line, case_line, case_else_line, try_line, catch_line, finally_line, sync_lock_line, with_line, using_line}}
 
 -- LINES THAT A PRIMARY MAY BEGIN
 

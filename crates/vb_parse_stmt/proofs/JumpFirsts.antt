@@ -1,15 +1,9 @@
 -- With what jumps begin.
 use Rattle.std.proofs.Common.{◌≡◌, true, List, ap}
 use Rattle.vb_text.specs.declared.names.Name.{Name}
-use Rattle.vb_syntax.specs.declared.tokens.Token.{Token}
-use Rattle.vb_syntax.specs.declared.words.Context.{Context}
-use Rattle.vb_syntax.specs.declared.statement.ExitKind.{ExitKind}
-use Rattle.vb_syntax.specs.declared.statement.ContinueKind.{ContinueKind}
-use Rattle.vb_syntax.specs.declared.statement.OnErrorAction.{OnErrorAction}
-use Rattle.vb_syntax.specs.declared.statement.ResumePlace.{ResumePlace}
+use Rattle.vb_syntax.specs.declared.{tokens.Token.Token, words.Context.Context, statement.{ExitKind.ExitKind, ContinueKind.ContinueKind, OnErrorAction.OnErrorAction, ResumePlace.ResumePlace}}
 use Rattle.vb_syntax.specs.declared.item.Item.TheVariants as item
-use Rattle.vb_parse_stmt.specs.Items.{IsOtherItem}
-use Rattle.vb_parse_stmt.specs.Reading.{front_of, may_begin}
+use Rattle.vb_parse_stmt.specs.{Items.IsOtherItem, Reading.{front_of, may_begin}}
 
 pub go_to_first : (c : Context) (ts : List Token) (n : Name) → IsOtherItem c ts (item.GoTo n) → may_begin (front_of c ts) (item.GoTo n) ≡ true
 go_to_first c ts n (us, split, p) = ap (λ (vs : List Token). may_begin (front_of c vs) (item.GoTo n)) split

@@ -2,23 +2,16 @@
 use Rattle.std.proofs.Common.{◌≡◌, List, [], ◌∷◌, Some, None, refl, sym, ap, subst, ◌∙◌}
 use Rattle.vb_text.specs.declared.names.Name.{Name}
 use Rattle.vb_syntax.specs.declared.keyword.Keyword.TheVariants as word
-use Rattle.vb_syntax.specs.declared.tokens.Token.{Token}
+use Rattle.vb_syntax.specs.declared.{tokens.Token.Token, words.Context.Context, statement.{ExitKind.ExitKind, ContinueKind.ContinueKind, OnErrorAction.OnErrorAction, ResumePlace.ResumePlace}}
 use Rattle.vb_syntax.specs.declared.tokens.Token.TheVariants as token
-use Rattle.vb_syntax.specs.declared.words.Context.{Context}
-use Rattle.vb_syntax.specs.declared.statement.ExitKind.{ExitKind}
 use Rattle.vb_syntax.specs.declared.statement.ExitKind.TheVariants as exit
-use Rattle.vb_syntax.specs.declared.statement.ContinueKind.{ContinueKind}
 use Rattle.vb_syntax.specs.declared.statement.ContinueKind.TheVariants as continue
-use Rattle.vb_syntax.specs.declared.statement.OnErrorAction.{OnErrorAction}
 use Rattle.vb_syntax.specs.declared.statement.OnErrorAction.TheVariants as action
-use Rattle.vb_syntax.specs.declared.statement.ResumePlace.{ResumePlace}
 use Rattle.vb_syntax.specs.declared.statement.ResumePlace.TheVariants as place
 use Rattle.vb_syntax.specs.declared.item.Item.TheVariants as item
 use Rattle.vb_parse_expr.specs.Words.{name_of}
 use Rattle.vb_parse_decl.specs.Parts.{reserved, IsNamed, Begins}
-use Rattle.vb_parse_stmt.specs.Statements.{exit_word, continue_word, IsAction, IsPlace}
-use Rattle.vb_parse_stmt.specs.JumpLines.{exit_of_word, continue_of_word}
-use Rattle.vb_parse_stmt.specs.Items.{IsOtherItem}
+use Rattle.vb_parse_stmt.specs.{Statements.{exit_word, continue_word, IsAction, IsPlace}, JumpLines.{exit_of_word, continue_of_word}, Items.IsOtherItem}
 
 -- LABELS
 

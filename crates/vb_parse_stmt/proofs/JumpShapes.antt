@@ -4,14 +4,11 @@ use Rattle.std.specs.Ordering.{int_eq}
 use Rattle.std.proofs.lemmas.Bool.Decides.{Decides-int_eq}
 use Rattle.vb_syntax.specs.declared.keyword.Keyword.TheVariants as word
 use Rattle.vb_syntax.specs.declared.symbol.Symbol.TheVariants as sign
-use Rattle.vb_syntax.specs.declared.tokens.IntegerLiteral.{IntegerLiteral}
-use Rattle.vb_syntax.specs.declared.tokens.Token.{Token}
+use Rattle.vb_syntax.specs.declared.{tokens.{IntegerLiteral.IntegerLiteral, Token.Token}, statement.OnErrorAction.OnErrorAction}
 use Rattle.vb_syntax.specs.declared.tokens.Token.TheVariants as token
-use Rattle.vb_syntax.specs.declared.statement.OnErrorAction.{OnErrorAction}
 use Rattle.vb_syntax.specs.declared.statement.OnErrorAction.TheVariants as action
 use Rattle.vb_parse_decl.specs.Parts.{reserved, Begins}
-use Rattle.vb_parse_stmt.specs.Statements.{IsAction}
-use Rattle.vb_parse_stmt.specs.JumpLines.{action_of}
+use Rattle.vb_parse_stmt.specs.{Statements.IsAction, JumpLines.action_of}
 
 abbrev pub IsErrorAction : List Token → OnErrorAction → Type 0
 IsErrorAction ts a = Begins word.Error (λ us. IsAction us a) ts

@@ -3,31 +3,16 @@ use Rattle.std.proofs.Common.{◌≡◌, ℕ, ◌+◌, ◌-◌, ◌≤◌, true,
 use Rattle.std.specs.List.{slice_get}
 use Rattle.std.proofs.Math.Seq.{take-length}
 use Rattle.vb_syntax.specs.declared.keyword.Keyword.TheVariants as word
-use Rattle.vb_syntax.specs.declared.tokens.Token.{Token}
+use Rattle.vb_syntax.specs.declared.{tokens.Token.Token, expression.Expr.Expr, statement.{LoopCondition.LoopCondition, LoopControlVariable.LoopControlVariable}, words.{ContextualWords.ContextualWords, Context.Context}, item.Item.Item}
 use Rattle.vb_syntax.specs.declared.tokens.Token.TheVariants as token
-use Rattle.vb_syntax.specs.declared.expression.Expr.{Expr}
-use Rattle.vb_syntax.specs.declared.statement.LoopCondition.{LoopCondition}
 use Rattle.vb_syntax.specs.declared.statement.LoopCondition.TheVariants as condition
-use Rattle.vb_syntax.specs.declared.words.ContextualWords.{ContextualWords}
-use Rattle.vb_syntax.specs.declared.statement.LoopControlVariable.{LoopControlVariable}
-use Rattle.vb_syntax.specs.declared.item.Item.{Item}
 use Rattle.vb_syntax.specs.declared.item.Item.TheVariants as item
-use Rattle.vb_syntax.specs.declared.words.Context.{Context}
 use Rattle.vb_parse_stmt.specs.declared.front.Front.TheVariants as front
-use Rattle.vb_parse_expr.specs.Words.{name_of}
-use Rattle.vb_parse_expr.specs.Types.{IsTypeFront}
-use Rattle.vb_parse_expr.specs.Expressions.{Spells}
-use Rattle.vb_parse_expr.specs.Fronts.{IsFront}
-use Rattle.vb_parse_expr.specs.TypeReading.{most_tokens}
+use Rattle.vb_parse_expr.specs.{Words.name_of, Types.IsTypeFront, Expressions.Spells, Fronts.IsFront, TypeReading.most_tokens}
 use Rattle.vb_parse_decl.specs.Parts.{reserved, equal, IsExpression, IsOptional}
-use Rattle.vb_parse_stmt.specs.Statements.{IsCondition, IsVariable, IsLimit, IsRange}
-use Rattle.vb_parse_stmt.specs.Reading.{IsItemFrom}
-use Rattle.vb_parse_stmt.specs.BlockParts.{StandsFrom, IsVariableFront, IsCounted, IsEach}
-use Rattle.vb_parse_decl.proofs.Wholes.{expression_front}
-use Rattle.vb_parse_decl.proofs.Parted.{EndsExpression, EndsType, expression_before, parted_at, first_dropped}
-use Rattle.vb_parse_decl.proofs.Refusals.{OneFront, no_expression}
-use Rattle.vb_parse_stmt.proofs.BlockParted.{EndedBy, no_left, no_parted, dropped_at}
-use Rattle.vb_parse_stmt.proofs.LoopVariables.{variable_ended, variable_taken, variable_one}
+use Rattle.vb_parse_stmt.specs.{Statements.{IsCondition, IsVariable, IsLimit, IsRange}, Reading.IsItemFrom, BlockParts.{StandsFrom, IsVariableFront, IsCounted, IsEach}}
+use Rattle.vb_parse_decl.proofs.{Wholes.expression_front, Parted.{EndsExpression, EndsType, expression_before, parted_at, first_dropped}, Refusals.{OneFront, no_expression}}
+use Rattle.vb_parse_stmt.proofs.{BlockParted.{EndedBy, no_left, no_parted, dropped_at}, LoopVariables.{variable_ended, variable_taken, variable_one}}
 
 pub no_while_condition : (words : ContextualWords) (ts us : List Token) → ts ≡ reserved word.While ∷ us → ((x : Expr) → IsExpression us x → ⊥)
     → (o : Option LoopCondition) → IsOptional (IsCondition words) ts o → ⊥

@@ -3,19 +3,12 @@ use Rattle.std.proofs.Common.{◌≡◌, ℕ, suc, ◌+◌, ◌-◌, ◌≤◌, 
 use Rattle.std.specs.List.{slice_get}
 use Rattle.vb_text.specs.declared.names.Name.{Name}
 use Rattle.vb_syntax.specs.declared.keyword.Keyword.TheVariants as word
-use Rattle.vb_syntax.specs.declared.tokens.Token.{Token}
+use Rattle.vb_syntax.specs.declared.{tokens.Token.Token, types.TypeName.TypeName, statement.{LoopControlVariable.LoopControlVariable, CatchVariable.CatchVariable}}
 use Rattle.vb_syntax.specs.declared.tokens.Token.TheVariants as token
-use Rattle.vb_syntax.specs.declared.types.TypeName.{TypeName}
-use Rattle.vb_syntax.specs.declared.statement.LoopControlVariable.{LoopControlVariable}
-use Rattle.vb_syntax.specs.declared.statement.CatchVariable.{CatchVariable}
-use Rattle.vb_parse_expr.specs.Words.{name_of}
-use Rattle.vb_parse_expr.specs.Types.{IsTypeFront}
-use Rattle.vb_parse_expr.specs.TypeReading.{most_tokens}
+use Rattle.vb_parse_expr.specs.{Words.name_of, Types.IsTypeFront, TypeReading.most_tokens}
 use Rattle.vb_parse_decl.specs.Parts.{reserved, IsType, IsOptional, Begins}
-use Rattle.vb_parse_stmt.specs.Statements.{IsVariable, IsCatchVariable}
-use Rattle.vb_parse_stmt.specs.BlockParts.{StandsFrom, DeclaredFront, IsVariableFront, IsCatchVariableFront, begins_as, found_name}
-use Rattle.vb_parse_decl.proofs.Parted.{EndsType, type_before, first_dropped, rest_dropped}
-use Rattle.vb_parse_decl.proofs.Refusals.{OneFront}
+use Rattle.vb_parse_stmt.specs.{Statements.{IsVariable, IsCatchVariable}, BlockParts.{StandsFrom, DeclaredFront, IsVariableFront, IsCatchVariableFront, begins_as, found_name}}
+use Rattle.vb_parse_decl.proofs.{Parted.{EndsType, type_before, first_dropped, rest_dropped}, Refusals.OneFront}
 use Rattle.vb_parse_stmt.proofs.BlockParted.{EndedBy, dropped_at}
 
 -- `As` and a type, or nothing

@@ -2,25 +2,15 @@
 use Rattle.std.proofs.Common.{◌≡◌, ◌⊎◌, inl, inr, ℕ, ◌==◌, ◌&&◌, Bool, true, false, if◌then◌else◌, List, ◌∷◌, length, drop, Option, Some, None, refl, sym, ap, subst, ◌∙◌}
 use Rattle.std.proofs.lemmas.Bool.{eqb-true, eq-eqb}
 use Rattle.vb_text.specs.declared.names.Name.{Name}
-use Rattle.vb_syntax.specs.declared.keyword.Keyword.{Keyword}
+use Rattle.vb_syntax.specs.declared.{keyword.Keyword.Keyword, tokens.Token.Token, words.Context.Context, expression.Expr.Expr, statement.CompoundOperator.CompoundOperator, item.Item.Item}
 use Rattle.vb_syntax.specs.declared.keyword.Keyword.TheVariants as word
-use Rattle.vb_syntax.specs.declared.tokens.Token.{Token}
 use Rattle.vb_syntax.specs.declared.tokens.Token.TheVariants as token
-use Rattle.vb_syntax.specs.declared.words.Context.{Context}
-use Rattle.vb_syntax.specs.declared.expression.Expr.{Expr}
-use Rattle.vb_syntax.specs.declared.statement.CompoundOperator.{CompoundOperator}
-use Rattle.vb_syntax.specs.declared.item.Item.{Item}
 use Rattle.vb_syntax.specs.declared.item.Item.TheVariants as item
-use Rattle.vb_parse_stmt.specs.declared.front.Front.{Front}
+use Rattle.vb_parse_stmt.specs.{declared.front.Front.Front, Statements.compound_sign, Items.{IsOtherItem, BeginsYield}, Reading.{word_front, front_of, may_begin, IsItemFrom}, SimpleLines.IsPrimaryLine}
 use Rattle.vb_parse_stmt.specs.declared.front.Front.TheVariants as front
 use Rattle.vb_parse_expr.specs.Fronts.{IsPrimaryFront, begins_primary}
 use Rattle.vb_parse_decl.specs.Parts.{reserved, equal, IsExpression, IsPrimary, Begins}
-use Rattle.vb_parse_stmt.specs.Statements.{compound_sign}
-use Rattle.vb_parse_stmt.specs.Items.{IsOtherItem, BeginsYield}
-use Rattle.vb_parse_stmt.specs.Reading.{word_front, front_of, may_begin, IsItemFrom}
-use Rattle.vb_parse_stmt.specs.SimpleLines.{IsPrimaryLine}
-use Rattle.vb_parse_decl.proofs.Wholes.{primary_front}
-use Rattle.vb_parse_decl.proofs.Parted.{primary_of_parted}
+use Rattle.vb_parse_decl.proofs.{Wholes.primary_front, Parted.primary_of_parted}
 use Rattle.vb_parse_stmt.proofs.SimpleRefusals.{compound_ends}
 
 -- WITH WHAT A LINE BEGINS

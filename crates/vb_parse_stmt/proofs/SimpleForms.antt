@@ -2,21 +2,14 @@
 use Rattle.std.proofs.Common.{◌≡◌, inl, inr, true, List, [], ◌∷◌, length, drop, Option, refl, sym, ap, subst, ◌∙◌, ◌≤◌, arith, length-drop}
 use Rattle.vb_text.specs.declared.names.Name.{Name}
 use Rattle.vb_syntax.specs.declared.keyword.Keyword.TheVariants as word
-use Rattle.vb_syntax.specs.declared.tokens.Token.{Token}
-use Rattle.vb_syntax.specs.declared.words.Context.{Context}
-use Rattle.vb_syntax.specs.declared.expression.Expr.{Expr}
+use Rattle.vb_syntax.specs.declared.{tokens.Token.Token, words.Context.Context, expression.Expr.Expr, item.Item.Item}
 use Rattle.vb_syntax.specs.declared.expression.Expr.TheVariants as e
-use Rattle.vb_syntax.specs.declared.item.Item.{Item}
 use Rattle.vb_syntax.specs.declared.item.Item.TheVariants as item
 use Rattle.vb_parse_stmt.specs.declared.front.Front.TheVariants as front
-use Rattle.vb_parse_expr.specs.Fronts.{IsPrimaryFront, begins_primary}
+use Rattle.vb_parse_expr.specs.{Fronts.{IsPrimaryFront, begins_primary}, TypeReading.most_tokens}
 use Rattle.vb_parse_decl.specs.Parts.{reserved, IsExpression, IsPrimary, IsOptional}
-use Rattle.vb_parse_stmt.specs.Statements.{IsRaised}
-use Rattle.vb_parse_stmt.specs.SimpleLines.{IsTwo, NamesEvent}
-use Rattle.vb_parse_stmt.specs.Reading.{front_of, IsItemFrom}
-use Rattle.vb_parse_expr.specs.TypeReading.{most_tokens}
-use Rattle.vb_parse_decl.proofs.Wholes.{primary_front}
-use Rattle.vb_parse_decl.proofs.Refusals.{OneFront}
+use Rattle.vb_parse_stmt.specs.{Statements.IsRaised, SimpleLines.{IsTwo, NamesEvent}, Reading.{front_of, IsItemFrom}}
+use Rattle.vb_parse_decl.proofs.{Wholes.primary_front, Refusals.OneFront}
 use Rattle.vb_parse_stmt.proofs.SimpleFirsts.{PrimaryBegins, starts, behind}
 
 pub no_throw : (c : Context) (ts : List Token) → ((x : Option Expr) → IsOptional IsExpression (drop 1 ts) x → ⊥) → (z : Item) → IsItemFrom c front.Throw ts z → ⊥

@@ -2,26 +2,14 @@
 use Rattle.std.proofs.Common.{◌≡◌, ℕ, ◌+◌, ◌-◌, ◌≤◌, List, length, drop, Option, Some, None, Result, Ok, Err, refl, sym, ap, subst, ◌∙◌, arith, length-drop}
 use Rattle.std.specs.List.{slice_get}
 use Rattle.vb_syntax.specs.declared.symbol.Symbol.TheVariants as sign
-use Rattle.vb_syntax.specs.declared.tokens.Token.{Token}
+use Rattle.vb_syntax.specs.declared.{tokens.{Token.Token, Line.Line}, expression.Expr.Expr, statement.CompoundOperator.CompoundOperator, item.Item.Item}
 use Rattle.vb_syntax.specs.declared.tokens.Token.TheVariants as token
-use Rattle.vb_syntax.specs.declared.tokens.Line.{Line}
-use Rattle.vb_syntax.specs.declared.expression.Expr.{Expr}
-use Rattle.vb_syntax.specs.declared.statement.CompoundOperator.{CompoundOperator}
 use Rattle.vb_syntax.specs.declared.statement.CompoundOperator.TheVariants as compound
-use Rattle.vb_syntax.specs.declared.item.Item.{Item}
 use Rattle.vb_syntax.specs.declared.item.Item.TheVariants as item
-use Rattle.vb_parse_expr.specs.declared.error.ParseErr.{ParseErr}
-use Rattle.vb_parse_expr.specs.declared.error.ParseErr.TheVariants.{Refused, Memory}
-use Rattle.vb_parse_expr.specs.Words.{comma}
-use Rattle.vb_parse_expr.specs.Fronts.{IsFront, IsPrimaryFront}
-use Rattle.vb_parse_expr.specs.TypeReading.{most_tokens}
-use Rattle.vb_parse_decl.specs.Parts.{IsExpression, IsPrimary, IsParted, IsOptional, equal}
-use Rattle.vb_parse_stmt.specs.Statements.{compound_sign}
-use Rattle.vb_parse_stmt.specs.SimpleLines.{IsPrimaryLine, IsTwo, compound_of, compound_there}
-use Rattle.vb_parse_decl.specs.Answers.{Tells}
-use Rattle.vb_parse_decl.proofs.Wholes.{primary_front}
-use Rattle.vb_parse_decl.proofs.Parted.{EndsExpression, EndsPrimary, expression_of_parted, primary_of_parted, cut_place, first_dropped, rest_dropped}
-use Rattle.vb_parse_decl.proofs.Refusals.{OneFront}
+use Rattle.vb_parse_expr.specs.{declared.error.ParseErr.{ParseErr, TheVariants.{Refused, Memory}}, Words.comma, Fronts.{IsFront, IsPrimaryFront}, TypeReading.most_tokens}
+use Rattle.vb_parse_decl.specs.{Parts.{IsExpression, IsPrimary, IsParted, IsOptional, equal}, Answers.Tells}
+use Rattle.vb_parse_stmt.specs.{Statements.compound_sign, SimpleLines.{IsPrimaryLine, IsTwo, compound_of, compound_there}}
+use Rattle.vb_parse_decl.proofs.{Wholes.primary_front, Parted.{EndsExpression, EndsPrimary, expression_of_parted, primary_of_parted, cut_place, first_dropped, rest_dropped}, Refusals.OneFront}
 
 few_dropped : (tokens : List Token) (from : ℕ) → length tokens ≤ most_tokens → length (drop from tokens) ≤ most_tokens
 few_dropped tokens from few = omega (arith, length-drop from tokens)

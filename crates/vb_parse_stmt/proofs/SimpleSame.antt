@@ -3,28 +3,15 @@ use Rattle.std.proofs.Common.{◌≡◌, inl, inr, ℕ, ◌+◌, ◌≤◌, ◌<
 use Rattle.std.proofs.Math.Seq.{drop-append_seam}
 use Rattle.vb_text.specs.declared.names.Name.{Name}
 use Rattle.vb_syntax.specs.declared.keyword.Keyword.TheVariants as word
-use Rattle.vb_syntax.specs.declared.tokens.Token.{Token}
+use Rattle.vb_syntax.specs.declared.{tokens.Token.Token, words.Context.Context, expression.Expr.{Expr, out-Expr, out-roll-Expr, TheOpen.Expr-F, TheVariants.rolls-Invocation}, statement.CompoundOperator.CompoundOperator}
 use Rattle.vb_syntax.specs.declared.tokens.Token.TheVariants as token
-use Rattle.vb_syntax.specs.declared.words.Context.{Context}
-use Rattle.vb_syntax.specs.declared.expression.Expr.{Expr, out-Expr, out-roll-Expr}
-use Rattle.vb_syntax.specs.declared.expression.Expr.TheOpen.{Expr-F}
-use Rattle.vb_syntax.specs.declared.expression.Expr.TheVariants.{rolls-Invocation}
 use Rattle.vb_syntax.specs.declared.expression.Expr.TheVariants as e
-use Rattle.vb_syntax.specs.declared.statement.CompoundOperator.{CompoundOperator}
 use Rattle.vb_syntax.specs.declared.item.Item.TheVariants as item
-use Rattle.vb_parse_expr.specs.Words.{comma}
-use Rattle.vb_parse_expr.specs.Expressions.{Spells, primary, prefix, binary}
-use Rattle.vb_parse_expr.specs.Fronts.{IsFront, IsPrimaryFront, begins_primary}
-use Rattle.vb_parse_expr.specs.TypeReading.{most_tokens}
+use Rattle.vb_parse_expr.specs.{Words.comma, Expressions.{Spells, primary, prefix, binary}, Fronts.{IsFront, IsPrimaryFront, begins_primary}, TypeReading.most_tokens}
 use Rattle.vb_parse_decl.specs.Parts.{reserved, equal, IsExpression, IsPrimary, IsParted, IsOptional, Begins}
-use Rattle.vb_parse_stmt.specs.Statements.{compound_sign, IsRaised}
-use Rattle.vb_parse_stmt.specs.SimpleLines.{compound_there}
-use Rattle.vb_parse_stmt.specs.Items.{IsOtherItem}
-use Rattle.vb_parse_decl.proofs.Wholes.{expression_front, primary_front}
-use Rattle.vb_parse_decl.proofs.Parted.{EndsExpression, EndsPrimary, expression_of_parted, primary_of_parted}
-use Rattle.vb_parse_decl.proofs.Refusals.{OneFront}
-use Rattle.vb_parse_stmt.proofs.SimpleFirsts.{PrimaryBegins}
-use Rattle.vb_parse_stmt.proofs.SimpleRefusals.{compound_ends, compound_read, not_both}
+use Rattle.vb_parse_stmt.specs.{Statements.{compound_sign, IsRaised}, SimpleLines.compound_there, Items.IsOtherItem}
+use Rattle.vb_parse_decl.proofs.{Wholes.{expression_front, primary_front}, Parted.{EndsExpression, EndsPrimary, expression_of_parted, primary_of_parted}, Refusals.OneFront}
+use Rattle.vb_parse_stmt.proofs.{SimpleFirsts.PrimaryBegins, SimpleRefusals.{compound_ends, compound_read, not_both}}
 
 -- TWO PARTS
 

@@ -2,16 +2,10 @@
 use Rattle.std.specs.Prelude.{◌≡◌, ◌⊎◌, ℕ, ◌+◌, ◌-◌, ◌≤◌, Bool, true, false, List, ◌∷◌, length, Option, Some, None, slice_get}
 use Rattle.vb_text.specs.declared.names.Name.{Name}
 use Rattle.vb_syntax.specs.declared.keyword.Keyword.TheVariants as word
-use Rattle.vb_syntax.specs.declared.tokens.Token.{Token}
+use Rattle.vb_syntax.specs.declared.{tokens.Token.Token, types.{TypeName.TypeName, SimpleTypeName.SimpleTypeName}, expression.Expr.Expr, statement.{LoopControlVariable.LoopControlVariable, CatchVariable.CatchVariable}}
 use Rattle.vb_syntax.specs.declared.tokens.Token.TheVariants as token
-use Rattle.vb_syntax.specs.declared.types.TypeName.{TypeName}
-use Rattle.vb_syntax.specs.declared.types.SimpleTypeName.{SimpleTypeName}
-use Rattle.vb_syntax.specs.declared.expression.Expr.{Expr}
 use Rattle.vb_syntax.specs.declared.expression.Expr.TheVariants as e
-use Rattle.vb_syntax.specs.declared.statement.LoopControlVariable.{LoopControlVariable}
-use Rattle.vb_syntax.specs.declared.statement.CatchVariable.{CatchVariable}
-use Rattle.vb_parse_expr.specs.Words.{name_of}
-use Rattle.vb_parse_expr.specs.Types.{IsTypeFront}
+use Rattle.vb_parse_expr.specs.{Words.name_of, Types.IsTypeFront}
 use Rattle.vb_parse_decl.specs.Parts.{reserved, equal, IsExpression, IsType, Begins, Names, IsParted}
 use Rattle.vb_parse_stmt.specs.Statements.{IsVariable, IsRange, IsCaught}
 

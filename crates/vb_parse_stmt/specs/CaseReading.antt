@@ -1,11 +1,9 @@
 -- With what a comparison of a `Case` begins: private functions, which the code equals.
 use Rattle.std.specs.Prelude.{ℕ, Bool, true, false, List, ◌∷◌, Option, Some, None}
 use Rattle.vb_syntax.specs.declared.keyword.Keyword.TheVariants as word
-use Rattle.vb_syntax.specs.declared.symbol.Symbol.{Symbol}
+use Rattle.vb_syntax.specs.declared.{symbol.Symbol.Symbol, tokens.Token.Token, expression.RelationalOperator.RelationalOperator}
 use Rattle.vb_syntax.specs.declared.symbol.Symbol.TheVariants as sign
-use Rattle.vb_syntax.specs.declared.tokens.Token.{Token}
 use Rattle.vb_syntax.specs.declared.tokens.Token.TheVariants as token
-use Rattle.vb_syntax.specs.declared.expression.RelationalOperator.{RelationalOperator}
 use Rattle.vb_syntax.specs.declared.expression.RelationalOperator.TheVariants as relation
 
 abbrev pub relation_of : Symbol → Option RelationalOperator

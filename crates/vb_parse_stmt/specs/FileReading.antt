@@ -1,17 +1,12 @@
 -- What stands behind the first word of options and ends: private functions, which the code equals.
 use Rattle.std.specs.Prelude.{◌==◌, if◌then◌else◌, List, [], ◌∷◌, Option, Some, None}
 use Rattle.vb_text.specs.declared.names.Name.{Name}
-use Rattle.vb_syntax.specs.declared.keyword.Keyword.{Keyword}
+use Rattle.vb_syntax.specs.declared.{keyword.Keyword.Keyword, tokens.Token.Token, item.BlockWord.BlockWord, declaration.{OptionSetting.OptionSetting, OptionSwitch.OptionSwitch}, words.ContextualWords.ContextualWords}
 use Rattle.vb_syntax.specs.declared.keyword.Keyword.TheVariants as word
-use Rattle.vb_syntax.specs.declared.tokens.Token.{Token}
 use Rattle.vb_syntax.specs.declared.tokens.Token.TheVariants as token
-use Rattle.vb_syntax.specs.declared.item.BlockWord.{BlockWord}
 use Rattle.vb_syntax.specs.declared.item.BlockWord.TheVariants as block
-use Rattle.vb_syntax.specs.declared.declaration.OptionSetting.{OptionSetting}
 use Rattle.vb_syntax.specs.declared.declaration.OptionSetting.TheVariants as setting
-use Rattle.vb_syntax.specs.declared.declaration.OptionSwitch.{OptionSwitch}
 use Rattle.vb_syntax.specs.declared.declaration.OptionSwitch.TheVariants as switch
-use Rattle.vb_syntax.specs.declared.words.ContextualWords.{ContextualWords}
 
 abbrev pub word_block : Keyword → Option BlockWord
 word_block word.Module = Some block.Module

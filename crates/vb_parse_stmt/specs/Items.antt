@@ -1,22 +1,13 @@
 -- Which tokens spell which item of a line, and what is said where there is none.
 use Rattle.std.specs.Prelude.{◌≡◌, ◌⊎◌, true, List, [], ◌∷◌, Some, None}
-use Rattle.vb_syntax.specs.declared.keyword.Keyword.{Keyword}
+use Rattle.vb_syntax.specs.declared.{keyword.Keyword.Keyword, tokens.Token.Token, item.{BlockWord.BlockWord, DeclarationLine.DeclarationLine, Item.Item}, words.{Context.Context, ContextualWords.ContextualWords}}
 use Rattle.vb_syntax.specs.declared.keyword.Keyword.TheVariants as word
-use Rattle.vb_syntax.specs.declared.tokens.Token.{Token}
 use Rattle.vb_syntax.specs.declared.tokens.Token.TheVariants as token
-use Rattle.vb_syntax.specs.declared.item.BlockWord.{BlockWord}
 use Rattle.vb_syntax.specs.declared.item.BlockWord.TheVariants as block
-use Rattle.vb_syntax.specs.declared.item.DeclarationLine.{DeclarationLine}
-use Rattle.vb_syntax.specs.declared.item.Item.{Item}
 use Rattle.vb_syntax.specs.declared.item.Item.TheVariants as item
-use Rattle.vb_syntax.specs.declared.words.Context.{Context}
-use Rattle.vb_syntax.specs.declared.words.ContextualWords.{ContextualWords}
-use Rattle.vb_parse_expr.specs.Words.{comma}
-use Rattle.vb_parse_expr.specs.Types.{SpellsNames}
-use Rattle.vb_parse_decl.specs.Parts.{reserved, equal, IsExpression, IsPrimary, IsNamed, After, Begins, Names, IsOptional, IsParted, AreListed}
+use Rattle.vb_parse_expr.specs.{Words.comma, Types.SpellsNames}
+use Rattle.vb_parse_decl.specs.{Parts.{reserved, equal, IsExpression, IsPrimary, IsNamed, After, Begins, Names, IsOptional, IsParted, AreListed}, Declarators.{IsBound, IsDeclarator}, DeclarationLines.IsDeclarationLine}
 use Rattle.vb_parse_stmt.specs.Statements.{IsSetting, local_word, compound_sign, exit_word, continue_word, IsAction, IsPlace, IsRaised, IsTest, IsCondition, IsVariable, IsRange, IsCaseItem, IsCaught, IsResource}
-use Rattle.vb_parse_decl.specs.Declarators.{IsBound, IsDeclarator}
-use Rattle.vb_parse_decl.specs.DeclarationLines.{IsDeclarationLine}
 
 abbrev pub block_word : BlockWord → Keyword
 block_word block.Module = word.Module

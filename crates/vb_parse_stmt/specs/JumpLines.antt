@@ -2,18 +2,13 @@
 use Rattle.std.specs.Prelude.{pos, if◌then◌else◌, List, [], ◌∷◌, Option, Some, None}
 use Rattle.std.specs.Ordering.{int_eq}
 use Rattle.vb_text.specs.declared.names.Name.{Name}
-use Rattle.vb_syntax.specs.declared.keyword.Keyword.{Keyword}
+use Rattle.vb_syntax.specs.declared.{keyword.Keyword.Keyword, tokens.Token.Token, statement.{ExitKind.ExitKind, ContinueKind.ContinueKind, OnErrorAction.OnErrorAction, ResumePlace.ResumePlace}}
 use Rattle.vb_syntax.specs.declared.keyword.Keyword.TheVariants as word
 use Rattle.vb_syntax.specs.declared.symbol.Symbol.TheVariants as sign
-use Rattle.vb_syntax.specs.declared.tokens.Token.{Token}
 use Rattle.vb_syntax.specs.declared.tokens.Token.TheVariants as token
-use Rattle.vb_syntax.specs.declared.statement.ExitKind.{ExitKind}
 use Rattle.vb_syntax.specs.declared.statement.ExitKind.TheVariants as exit
-use Rattle.vb_syntax.specs.declared.statement.ContinueKind.{ContinueKind}
 use Rattle.vb_syntax.specs.declared.statement.ContinueKind.TheVariants as continue
-use Rattle.vb_syntax.specs.declared.statement.OnErrorAction.{OnErrorAction}
 use Rattle.vb_syntax.specs.declared.statement.OnErrorAction.TheVariants as action
-use Rattle.vb_syntax.specs.declared.statement.ResumePlace.{ResumePlace}
 use Rattle.vb_syntax.specs.declared.statement.ResumePlace.TheVariants as place
 use Rattle.vb_parse_expr.specs.Words.{name_of}
 

@@ -2,13 +2,10 @@
 use Rattle.std.specs.Prelude.{◌≡◌, ◌⊎◌, List, [], Option, Some, None}
 use Rattle.vb_text.specs.declared.names.Name.{Name}
 use Rattle.vb_syntax.specs.declared.symbol.Symbol.TheVariants as sign
-use Rattle.vb_syntax.specs.declared.tokens.Token.{Token}
+use Rattle.vb_syntax.specs.declared.{tokens.Token.Token, expression.Expr.Expr, statement.CompoundOperator.CompoundOperator, item.Item.Item}
 use Rattle.vb_syntax.specs.declared.tokens.Token.TheVariants as token
-use Rattle.vb_syntax.specs.declared.expression.Expr.{Expr}
 use Rattle.vb_syntax.specs.declared.expression.Expr.TheVariants as e
-use Rattle.vb_syntax.specs.declared.statement.CompoundOperator.{CompoundOperator}
 use Rattle.vb_syntax.specs.declared.statement.CompoundOperator.TheVariants as compound
-use Rattle.vb_syntax.specs.declared.item.Item.{Item}
 use Rattle.vb_syntax.specs.declared.item.Item.TheVariants as item
 use Rattle.vb_parse_expr.specs.Words.{comma}
 use Rattle.vb_parse_decl.specs.Parts.{equal, IsExpression, IsPrimary, IsParted}

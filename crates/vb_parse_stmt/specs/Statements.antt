@@ -1,44 +1,24 @@
 -- The parts of statements.
 use Rattle.std.specs.Prelude.{◌≡◌, ◌⊎◌, pos, List, [], ◌∷◌, ◌++◌, Option, Some, None}
 use Rattle.vb_text.specs.declared.names.Name.{Name}
-use Rattle.vb_syntax.specs.declared.keyword.Keyword.{Keyword}
+use Rattle.vb_syntax.specs.declared.{keyword.Keyword.Keyword, symbol.Symbol.Symbol, tokens.{IntegerLiteral.IntegerLiteral, Token.Token}, expression.{RelationalOperator.RelationalOperator, Expr.Expr}, declaration.{OptionSetting.OptionSetting, OptionSwitch.OptionSwitch}, statement.{LocalModifier.LocalModifier, CompoundOperator.CompoundOperator, ExitKind.ExitKind, ContinueKind.ContinueKind, OnErrorAction.OnErrorAction, ResumePlace.ResumePlace, LoopCondition.LoopCondition, LoopControlVariable.LoopControlVariable, CaseItem.CaseItem, CatchVariable.CatchVariable, UsingResource.UsingResource}, words.ContextualWords.ContextualWords}
 use Rattle.vb_syntax.specs.declared.keyword.Keyword.TheVariants as word
-use Rattle.vb_syntax.specs.declared.symbol.Symbol.{Symbol}
 use Rattle.vb_syntax.specs.declared.symbol.Symbol.TheVariants as sign
-use Rattle.vb_syntax.specs.declared.tokens.IntegerLiteral.{IntegerLiteral}
-use Rattle.vb_syntax.specs.declared.tokens.Token.{Token}
 use Rattle.vb_syntax.specs.declared.tokens.Token.TheVariants as token
-use Rattle.vb_syntax.specs.declared.expression.RelationalOperator.{RelationalOperator}
 use Rattle.vb_syntax.specs.declared.expression.RelationalOperator.TheVariants as relation
-use Rattle.vb_syntax.specs.declared.expression.Expr.{Expr}
 use Rattle.vb_syntax.specs.declared.expression.Expr.TheVariants as e
-use Rattle.vb_syntax.specs.declared.declaration.OptionSetting.{OptionSetting}
 use Rattle.vb_syntax.specs.declared.declaration.OptionSetting.TheVariants as setting
-use Rattle.vb_syntax.specs.declared.declaration.OptionSwitch.{OptionSwitch}
 use Rattle.vb_syntax.specs.declared.declaration.OptionSwitch.TheVariants as switch
-use Rattle.vb_syntax.specs.declared.statement.LocalModifier.{LocalModifier}
 use Rattle.vb_syntax.specs.declared.statement.LocalModifier.TheVariants as local
-use Rattle.vb_syntax.specs.declared.statement.CompoundOperator.{CompoundOperator}
 use Rattle.vb_syntax.specs.declared.statement.CompoundOperator.TheVariants as compound
-use Rattle.vb_syntax.specs.declared.statement.ExitKind.{ExitKind}
 use Rattle.vb_syntax.specs.declared.statement.ExitKind.TheVariants as exit
-use Rattle.vb_syntax.specs.declared.statement.ContinueKind.{ContinueKind}
 use Rattle.vb_syntax.specs.declared.statement.ContinueKind.TheVariants as continue
-use Rattle.vb_syntax.specs.declared.statement.OnErrorAction.{OnErrorAction}
 use Rattle.vb_syntax.specs.declared.statement.OnErrorAction.TheVariants as action
-use Rattle.vb_syntax.specs.declared.statement.ResumePlace.{ResumePlace}
 use Rattle.vb_syntax.specs.declared.statement.ResumePlace.TheVariants as place
-use Rattle.vb_syntax.specs.declared.statement.LoopCondition.{LoopCondition}
 use Rattle.vb_syntax.specs.declared.statement.LoopCondition.TheVariants as condition
-use Rattle.vb_syntax.specs.declared.statement.LoopControlVariable.{LoopControlVariable}
-use Rattle.vb_syntax.specs.declared.statement.CaseItem.{CaseItem}
 use Rattle.vb_syntax.specs.declared.statement.CaseItem.TheVariants as case_item
-use Rattle.vb_syntax.specs.declared.statement.CatchVariable.{CatchVariable}
-use Rattle.vb_syntax.specs.declared.statement.UsingResource.{UsingResource}
 use Rattle.vb_syntax.specs.declared.statement.UsingResource.TheVariants as resource
-use Rattle.vb_syntax.specs.declared.words.ContextualWords.{ContextualWords}
-use Rattle.vb_parse_decl.specs.Declarators.{IsNew}
-use Rattle.vb_parse_decl.specs.Parts.{reserved, equal, IsExpression, IsPrimary, IsType, IsNamed, After, Begins, Names, IsOptional, IsParted}
+use Rattle.vb_parse_decl.specs.{Declarators.IsNew, Parts.{reserved, equal, IsExpression, IsPrimary, IsType, IsNamed, After, Begins, Names, IsOptional, IsParted}}
 
 -- OPTIONS (6.2)
 

@@ -1,14 +1,8 @@
 -- How many rows a line has.
 use Rattle.std.proofs.Common.{◌≡◌, ℕ, suc, ◌+◌, Bool, not, false, List, [], ◌∷◌, Option, Some, None, length, refl, sym, ap, ◌∙◌, length-append}
 use Rattle.vb_text.specs.declared.names.Name.{Name}
-use Rattle.vb_syntax.specs.declared.tokens.Line.{Line}
-use Rattle.vb_syntax.specs.declared.item.Item.{Item}
-use Rattle.vb_syntax.specs.declared.item.Row.{Row}
-use Rattle.vb_syntax.specs.declared.words.ContextualWords.{ContextualWords}
-use Rattle.vb_syntax.specs.Items.{is_end}
-use Rattle.vb_rows.specs.Pieces.{Piece, label_of, pieces_of}
-use Rattle.vb_rows.specs.Rows.{items_behind, joint_of, joined, label_rows, ArePieceRows, AreLineRows}
-use Rattle.vb_rows.specs.Files.{piece_brackets, label_brackets, line_brackets, brackets_of, AreRowsOf, row_count}
+use Rattle.vb_syntax.specs.{declared.{tokens.Line.Line, item.{Item.Item, Row.Row}, words.ContextualWords.ContextualWords}, Items.is_end}
+use Rattle.vb_rows.specs.{Pieces.{Piece, label_of, pieces_of}, Rows.{items_behind, joint_of, joined, label_rows, ArePieceRows, AreLineRows}, Files.{piece_brackets, label_brackets, line_brackets, brackets_of, AreRowsOf, row_count}}
 
 pub joined_count : (inside : Bool) (rs : List Row) → length (joined inside rs) ≡ length rs
 joined_count inside [] = refl

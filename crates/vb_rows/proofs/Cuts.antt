@@ -2,9 +2,8 @@
 use Rattle.std.proofs.Common.{◌≡◌, true, false, List, [], ◌∷◌, ◌++◌, refl, sym, ap, ◌∙◌, append_assoc}
 use Rattle.vb_syntax.specs.declared.tokens.Token.{Token}
 use Rattle.vb_syntax.specs.declared.item.Joint.TheVariants as joint
-use Rattle.vb_rows.specs.declared.pieces.Before.{Before}
+use Rattle.vb_rows.specs.{declared.pieces.Before.Before, Pieces.{Piece, piece, cut, push, is_colon, parts_at_else, parts_at_then, before_next}}
 use Rattle.vb_rows.specs.declared.pieces.Before.TheVariants as before
-use Rattle.vb_rows.specs.Pieces.{Piece, piece, cut, push, is_colon, parts_at_else, parts_at_then, before_next}
 
 -- tokens at the front of the first piece
 abbrev pub pushes : List Token → List Piece → List Piece

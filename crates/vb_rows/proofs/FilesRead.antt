@@ -2,18 +2,10 @@
 use Rattle.std.proofs.Common.{◌≡◌, inl, inr, zero, suc, ◌≤◌, Bool, true, false, List, [], ◌∷◌, ◌++◌, Option, length, All, refl, sym, ap, ◌∙◌, subst, arith}
 use Rattle.std.proofs.lemmas.List.Elements.{All-append}
 use Rattle.vb_diag.specs.declared.refusal.Refusal.{Refusal}
-use Rattle.vb_syntax.specs.declared.tokens.Line.{Line}
-use Rattle.vb_syntax.specs.declared.item.Row.{Row}
-use Rattle.vb_syntax.specs.declared.words.Context.{Context}
-use Rattle.vb_syntax.specs.declared.words.ContextualWords.{ContextualWords}
-use Rattle.vb_rows.specs.declared.files.FileRows.{FileRows}
-use Rattle.vb_rows.specs.Rows.{in_iterator, items_behind, AreLineRows}
+use Rattle.vb_syntax.specs.declared.{tokens.Line.Line, item.Row.Row, words.{Context.Context, ContextualWords.ContextualWords}}
+use Rattle.vb_rows.specs.{declared.files.FileRows.FileRows, Rows.{in_iterator, items_behind, AreLineRows}, Files.{line_brackets, brackets_of, AreRowsOf, is_of_grammar, row_count, BreaksGrammar, IsLeastRefusal}, FileReading.{IsRefused, IsLineRead}}
 use Rattle.vb_parse_expr.specs.TypeReading.{most_tokens}
-use Rattle.vb_rows.specs.Files.{line_brackets, brackets_of, AreRowsOf, is_of_grammar, row_count, BreaksGrammar, IsLeastRefusal}
-use Rattle.vb_rows.specs.FileReading.{IsRefused, IsLineRead}
-use Rattle.vb_rows.proofs.Counts.{line_count}
-use Rattle.vb_rows.proofs.MoreLines.{behind_both, rows_more, brackets_more, flag, flag_more, broken_split, broken_front, broken_last}
-use Rattle.vb_rows.proofs.Refusals.{least_same, least_more}
+use Rattle.vb_rows.proofs.{Counts.line_count, MoreLines.{behind_both, rows_more, brackets_more, flag, flag_more, broken_split, broken_front, broken_last}, Refusals.{least_same, least_more}}
 
 -- These lines were read, and this is what is known behind them.
 pub record AreLinesRead (words : ContextualWords) (lines : List Line) (context : Context) (first : Bool) (read : FileRows) : Type 0 where

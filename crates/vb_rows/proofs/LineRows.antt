@@ -1,18 +1,11 @@
 -- The rows of a line, whose colons are told.
 use Rattle.std.proofs.Common.{◌≡◌, ℕ, Bool, false, not, List, [], ◌∷◌, ◌++◌, Option, Some, None, refl, sym, ap, ◌∙◌, subst}
 use Rattle.vb_text.specs.declared.names.Name.{Name}
-use Rattle.vb_syntax.specs.declared.tokens.Token.{Token}
-use Rattle.vb_syntax.specs.declared.tokens.Line.{Line}
-use Rattle.vb_syntax.specs.declared.item.Item.{Item}
+use Rattle.vb_syntax.specs.{declared.{tokens.{Token.Token, Line.Line}, item.{Item.Item, Row.Row}, words.Context.Context}, Items.is_end}
 use Rattle.vb_syntax.specs.declared.item.Item.TheVariants as item
 use Rattle.vb_syntax.specs.declared.item.Joint.TheVariants as joint
-use Rattle.vb_syntax.specs.declared.item.Row.{Row}
-use Rattle.vb_syntax.specs.declared.words.Context.{Context}
-use Rattle.vb_syntax.specs.Items.{is_end}
 use Rattle.vb_rows.specs.declared.pieces.Before.TheVariants as before
-use Rattle.vb_rows.specs.Pieces.{cut, kept, label_of, behind_label}
-use Rattle.vb_rows.specs.Rows.{keeps_in_iterator, in_iterator, items_behind, joint_of, joined, label_rows, ArePieceRows, AreLineRows}
-use Rattle.vb_rows.specs.Reading.{ArePiecesAdded}
+use Rattle.vb_rows.specs.{Pieces.{cut, kept, label_of, behind_label}, Rows.{keeps_in_iterator, in_iterator, items_behind, joint_of, joined, label_rows, ArePieceRows, AreLineRows}, Reading.ArePiecesAdded}
 
 pub label_joined : (number : ℕ) (o : Option Name) (parts : List Row) → joined false (label_rows number o ++ parts) ≡ label_rows number o ++ joined false parts
 label_joined number None parts = refl

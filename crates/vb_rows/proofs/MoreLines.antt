@@ -1,12 +1,8 @@
 -- One line more of a file.
 use Rattle.std.proofs.Common.{◌≡◌, ◌⊎◌, inl, inr, ℕ, Bool, false, List, [], ◌∷◌, ◌++◌, Option, length, take, drop, refl, sym, ap, ◌∙◌, subst, append_assoc, append-nil}
 use Rattle.std.proofs.Math.Seq.{take-append_seam, drop-append_seam, take-length}
-use Rattle.vb_syntax.specs.declared.tokens.Line.{Line}
-use Rattle.vb_syntax.specs.declared.item.Item.{Item}
-use Rattle.vb_syntax.specs.declared.item.Row.{Row}
-use Rattle.vb_syntax.specs.declared.words.ContextualWords.{ContextualWords}
-use Rattle.vb_rows.specs.Rows.{items_behind, AreLineRows}
-use Rattle.vb_rows.specs.Files.{line_brackets, brackets_of, AreRowsOf, is_of_grammar, row_count, BreaksGrammar}
+use Rattle.vb_syntax.specs.declared.{tokens.Line.Line, item.{Item.Item, Row.Row}, words.ContextualWords.ContextualWords}
+use Rattle.vb_rows.specs.{Rows.{items_behind, AreLineRows}, Files.{line_brackets, brackets_of, AreRowsOf, is_of_grammar, row_count, BreaksGrammar}}
 use Rattle.vb_rows.proofs.Counts.{line_count}
 
 pub behind_both : (items : List (Option Item)) (xs ys : List Row) → items_behind items (xs ++ ys) ≡ items_behind (items_behind items xs) ys

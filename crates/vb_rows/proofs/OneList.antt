@@ -1,23 +1,13 @@
 -- Lines have one list of rows.
 use Rattle.std.proofs.Common.{◌≡◌, ℕ, suc, ◌≤◌, Bool, true, false, List, [], ◌∷◌, ◌++◌, Option, Some, None, length, All, refl, sym, ap, ◌∙◌, subst, if◌then◌else◌, arith}
 use Rattle.vb_syntax.specs.declared.symbol.Symbol.TheVariants as sign
-use Rattle.vb_syntax.specs.declared.tokens.Token.{Token}
+use Rattle.vb_syntax.specs.{declared.{tokens.{Token.Token, Line.Line}, item.{Item.Item, Joint.Joint, Row.Row}, words.{Context.Context, ContextualWords.ContextualWords}}, ContextualWords.OptionsApart}
 use Rattle.vb_syntax.specs.declared.tokens.Token.TheVariants as token
-use Rattle.vb_syntax.specs.declared.tokens.Line.{Line}
-use Rattle.vb_syntax.specs.declared.item.Item.{Item}
-use Rattle.vb_syntax.specs.declared.item.Joint.{Joint}
 use Rattle.vb_syntax.specs.declared.item.Joint.TheVariants as joint
-use Rattle.vb_syntax.specs.declared.item.Row.{Row}
-use Rattle.vb_syntax.specs.declared.words.Context.{Context}
-use Rattle.vb_syntax.specs.declared.words.ContextualWords.{ContextualWords}
-use Rattle.vb_syntax.specs.ContextualWords.{OptionsApart}
 use Rattle.vb_parse_expr.specs.TypeReading.{most_tokens}
 use Rattle.vb_parse_stmt.specs.Items.{IsItem}
-use Rattle.vb_rows.specs.declared.pieces.Before.{Before}
+use Rattle.vb_rows.specs.{declared.pieces.Before.Before, Pieces.{Piece, piece, is_colon, parts_at_else, parts_at_then, before_next, push, cut, label_of, behind_label, is_left_out, kept, pieces_of}, Rows.{items_behind, context_behind, Spells, ArePieceRows, joined, label_rows, AreLineRows}, Files.AreRowsOf}
 use Rattle.vb_rows.specs.declared.pieces.Before.TheVariants as before
-use Rattle.vb_rows.specs.Pieces.{Piece, piece, is_colon, parts_at_else, parts_at_then, before_next, push, cut, label_of, behind_label, is_left_out, kept, pieces_of}
-use Rattle.vb_rows.specs.Rows.{items_behind, context_behind, Spells, ArePieceRows, joined, label_rows, AreLineRows}
-use Rattle.vb_rows.specs.Files.{AreRowsOf}
 
 -- PIECES ARE NO LONGER THAN THEIR LINE
 

@@ -1,14 +1,9 @@
 -- The brackets of the pieces of a line that were counted.
 use Rattle.std.proofs.Common.{◌≡◌, ℕ, ◌-◌, Bool, true, false, List, [], ◌∷◌, ◌++◌, length, take, drop, refl, sym, ap, ◌∙◌, append_assoc, append-nil, length-drop, if◌then◌else◌, arith}
 use Rattle.std.proofs.lemmas.List.{take_all}
-use Rattle.vb_syntax.specs.declared.tokens.Token.{Token}
-use Rattle.vb_syntax.specs.declared.item.Joint.{Joint}
+use Rattle.vb_syntax.specs.{declared.{tokens.Token.Token, item.Joint.Joint}, Items.is_end}
 use Rattle.vb_syntax.specs.declared.item.Joint.TheVariants as joint
-use Rattle.vb_syntax.specs.Items.{is_end}
-use Rattle.vb_rows.specs.declared.pieces.Found.{Found}
-use Rattle.vb_rows.specs.Pieces.{kept}
-use Rattle.vb_rows.specs.Cutting.{FirstPiece, before_behind, skipped, cut_behind, is_left_out}
-use Rattle.vb_rows.specs.Files.{deepest, piece_brackets}
+use Rattle.vb_rows.specs.{declared.pieces.Found.Found, Pieces.kept, Cutting.{FirstPiece, before_behind, skipped, cut_behind, is_left_out}, Files.{deepest, piece_brackets}}
 use Rattle.vb_rows.proofs.PieceRows.{pieces_from, left_behind, next_left_out, next_kept}
 
 -- what a piece adds

@@ -2,22 +2,11 @@
 use Rattle.std.proofs.Common.{◌≡◌, ℕ, zero, suc, ◌≤◌, ◌<◌, ◌+◌, ◌-◌, ◌==◌, ◌&&◌, Bool, true, false, List, [], ◌∷◌, ◌++◌, Option, length, take, drop, refl, sym, ap, ◌∙◌, subst, append_assoc, append-nil, drop-drop, length-drop, arith}
 use Rattle.std.proofs.lemmas.List.{take_all}
 use Rattle.std.specs.List.{slice_range}
-use Rattle.vb_syntax.specs.declared.tokens.Token.{Token}
-use Rattle.vb_syntax.specs.declared.item.Item.{Item}
-use Rattle.vb_syntax.specs.declared.item.Joint.{Joint}
+use Rattle.vb_syntax.specs.{declared.{tokens.Token.Token, item.{Item.Item, Joint.Joint, Row.Row}, words.{Context.Context, ContextualWords.ContextualWords}}, Items.is_end}
 use Rattle.vb_syntax.specs.declared.item.Joint.TheVariants as joint
-use Rattle.vb_syntax.specs.declared.item.Row.{Row}
-use Rattle.vb_syntax.specs.declared.words.Context.{Context}
-use Rattle.vb_syntax.specs.declared.words.ContextualWords.{ContextualWords}
-use Rattle.vb_syntax.specs.Items.{is_end}
-use Rattle.vb_rows.specs.declared.pieces.Found.{Found}
-use Rattle.vb_rows.specs.declared.pieces.Before.{Before}
+use Rattle.vb_rows.specs.{declared.pieces.{Found.Found, Before.Before}, Pieces.{Piece, piece, cut, kept, is_empty, parts_statements}, Cutting.{FirstPiece, Shrinks, before_behind, skipped, cut_behind, is_left_out}, Rows.{keeps_in_iterator, in_iterator, items_behind, context_behind, Spells, ArePieceRows}, Reading.{IsRowAdded, ArePiecesAdded}}
 use Rattle.vb_rows.specs.declared.pieces.Before.TheVariants as before
 use Rattle.vb_rows.specs.Pieces as spec
-use Rattle.vb_rows.specs.Pieces.{Piece, piece, cut, kept, is_empty, parts_statements}
-use Rattle.vb_rows.specs.Cutting.{FirstPiece, Shrinks, before_behind, skipped, cut_behind, is_left_out}
-use Rattle.vb_rows.specs.Rows.{keeps_in_iterator, in_iterator, items_behind, context_behind, Spells, ArePieceRows}
-use Rattle.vb_rows.specs.Reading.{IsRowAdded, ArePiecesAdded}
 
 -- Of the pieces those before the rest were read, behind these items.
 pub record IsReadTo (all rest : List Piece) (earlier now : Context) (number : ℕ) (rows grown : List Row) (items : List (Option Item)) : Type 0 where

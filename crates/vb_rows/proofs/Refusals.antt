@@ -5,8 +5,7 @@ use Rattle.std.proofs.lemmas.Grind.{common_steps}
 use Rattle.vb_diag.specs.declared.refusal.Refusal.{Refusal}
 use Rattle.vb_syntax.specs.declared.tokens.Line.{Line}
 use Rattle.vb_parse_expr.specs.Fronts.{IsRefusalOf, line_rule}
-use Rattle.vb_rows.specs.Files.{IsNotAfter, IsLeastOf, IsLeast}
-use Rattle.vb_rows.specs.FileReading.{told_first, lesser_of}
+use Rattle.vb_rows.specs.{Files.{IsNotAfter, IsLeastOf, IsLeast}, FileReading.{told_first, lesser_of}}
 
 pub after_trans : (a b c d e f : ℕ) → IsNotAfter a b c d → IsNotAfter c d e f → IsNotAfter a b e f
 after_trans a b c d e f (inl h) (inl k) = inl (omega (arith, h, k))

@@ -1,12 +1,9 @@
 -- The first piece of tokens: private definitions, for the clauses of the code's own functions.
 use Rattle.std.specs.Prelude.{◌≡◌, ℕ, ◌≤◌, ◌<◌, ◌==◌, Bool, ◌&&◌, List, [], ◌∷◌, length, take, drop}
-use Rattle.vb_syntax.specs.declared.tokens.Token.{Token}
-use Rattle.vb_syntax.specs.declared.item.Joint.{Joint}
+use Rattle.vb_syntax.specs.declared.{tokens.Token.Token, item.Joint.Joint}
 use Rattle.vb_syntax.specs.declared.item.Joint.TheVariants as joint
-use Rattle.vb_rows.specs.declared.pieces.Before.{Before}
+use Rattle.vb_rows.specs.{declared.pieces.{Before.Before, Found.Found}, Pieces.{Piece, piece, cut, parts_statements}}
 use Rattle.vb_rows.specs.declared.pieces.Before.TheVariants as before
-use Rattle.vb_rows.specs.declared.pieces.Found.{Found}
-use Rattle.vb_rows.specs.Pieces.{Piece, piece, cut, parts_statements}
 
 -- what stands before the first token behind this
 abbrev pub before_behind : Joint → Before

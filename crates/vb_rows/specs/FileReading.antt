@@ -1,15 +1,9 @@
 -- How far a file was read: private definitions, for the clauses of the code's own functions.
 use Rattle.std.specs.Prelude.{◌≡◌, ◌==◌, nat_lt, nat_le, Bool, true, false, ◌&&◌, ◌||◌, if◌then◌else◌, List, ◌++◌, length, ◌≤◌, Option, Some, None}
 use Rattle.vb_diag.specs.declared.refusal.Refusal.{Refusal}
-use Rattle.vb_syntax.specs.declared.tokens.Line.{Line}
-use Rattle.vb_syntax.specs.declared.item.Item.{Item}
-use Rattle.vb_syntax.specs.declared.item.Row.{Row}
-use Rattle.vb_syntax.specs.declared.words.Context.{Context}
-use Rattle.vb_parse_expr.specs.TypeReading.{most_tokens}
-use Rattle.vb_parse_expr.specs.Fronts.{IsRefusalOf}
-use Rattle.vb_rows.specs.declared.files.FileRows.{FileRows}
-use Rattle.vb_rows.specs.Rows.{in_iterator, items_behind, AreLineRows}
-use Rattle.vb_rows.specs.Files.{line_brackets, is_of_grammar}
+use Rattle.vb_syntax.specs.declared.{tokens.Line.Line, item.{Item.Item, Row.Row}, words.Context.Context}
+use Rattle.vb_parse_expr.specs.{TypeReading.most_tokens, Fronts.IsRefusalOf}
+use Rattle.vb_rows.specs.{declared.files.FileRows.FileRows, Rows.{in_iterator, items_behind, AreLineRows}, Files.{line_brackets, is_of_grammar}}
 
 -- whether a refusal is told before another, or is it
 abbrev pub told_first : Refusal → Refusal → Bool

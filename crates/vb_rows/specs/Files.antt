@@ -4,16 +4,11 @@ use Rattle.std.specs.Prelude.{◌≡◌, ◌⊎◌, ℕ, ◌+◌, ◌-◌, ◌<�
 use Rattle.vb_diag.specs.declared.refusal.Refusal.{Refusal}
 use Rattle.vb_text.specs.declared.names.Name.{Name}
 use Rattle.vb_syntax.specs.declared.symbol.Symbol.TheVariants as sign
-use Rattle.vb_syntax.specs.declared.tokens.Token.{Token}
+use Rattle.vb_syntax.specs.declared.{tokens.{Token.Token, Line.Line}, item.{Item.Item, Row.Row}, words.ContextualWords.ContextualWords}
 use Rattle.vb_syntax.specs.declared.tokens.Token.TheVariants as token
-use Rattle.vb_syntax.specs.declared.tokens.Line.{Line}
-use Rattle.vb_syntax.specs.declared.item.Item.{Item}
 use Rattle.vb_syntax.specs.declared.item.Joint.TheVariants as joint
-use Rattle.vb_syntax.specs.declared.item.Row.{Row}
-use Rattle.vb_syntax.specs.declared.words.ContextualWords.{ContextualWords}
 use Rattle.vb_parse_expr.specs.Fronts.{IsRefusalOf, line_rule}
-use Rattle.vb_rows.specs.Pieces.{Piece, is_colon, label_of, pieces_of}
-use Rattle.vb_rows.specs.Rows.{items_behind, label_rows, AreLineRows, are_in_place}
+use Rattle.vb_rows.specs.{Pieces.{Piece, is_colon, label_of, pieces_of}, Rows.{items_behind, label_rows, AreLineRows, are_in_place}}
 
 -- BRACKETS
 

@@ -1,14 +1,9 @@
 -- How far a line was read: private definitions, for the clauses of the code's own functions.
 use Rattle.std.specs.Prelude.{◌≡◌, ℕ, List, [], ◌∷◌, ◌++◌, Option}
-use Rattle.vb_syntax.specs.declared.tokens.Token.{Token}
-use Rattle.vb_syntax.specs.declared.item.Item.{Item}
-use Rattle.vb_syntax.specs.declared.item.Joint.{Joint}
+use Rattle.vb_syntax.specs.declared.{tokens.Token.Token, item.{Item.Item, Joint.Joint, Row.Row}, words.Context.Context}
 use Rattle.vb_syntax.specs.declared.item.Joint.TheVariants as joint
-use Rattle.vb_syntax.specs.declared.item.Row.{Row}
-use Rattle.vb_syntax.specs.declared.words.Context.{Context}
 use Rattle.vb_rows.specs.declared.pieces.Before.TheVariants as before
-use Rattle.vb_rows.specs.Pieces.{cut, kept}
-use Rattle.vb_rows.specs.Rows.{keeps_in_iterator, in_iterator, items_behind, Spells, ArePieceRows}
+use Rattle.vb_rows.specs.{Pieces.{cut, kept}, Rows.{keeps_in_iterator, in_iterator, items_behind, Spells, ArePieceRows}}
 
 -- a row of the tokens was added
 pub record IsRowAdded (earlier now : Context) (number : ℕ) (ts : List Token) (behind : Joint) (rows grown : List Row) : Type 0 where

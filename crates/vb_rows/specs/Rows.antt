@@ -2,23 +2,12 @@
 -- 10.8.1).
 use Rattle.std.specs.Prelude.{◌≡◌, ℕ, ◌+◌, ◌-◌, nat_lt, Bool, true, false, ◌&&◌, ◌||◌, not, if◌then◌else◌, List, [], ◌∷◌, ◌++◌, Option, Some, None}
 use Rattle.vb_text.specs.declared.names.Name.{Name}
-use Rattle.vb_syntax.specs.declared.tokens.Token.{Token}
-use Rattle.vb_syntax.specs.declared.tokens.Line.{Line}
-use Rattle.vb_syntax.specs.declared.declaration.Modifier.{Modifier}
-use Rattle.vb_syntax.specs.declared.declaration.FunctionKind.{FunctionKind}
+use Rattle.vb_syntax.specs.{declared.{tokens.{Token.Token, Line.Line}, declaration.{Modifier.Modifier, FunctionKind.FunctionKind}, item.{BlockWord.BlockWord, DeclarationLine.DeclarationLine, Joint.Joint, Item.Item, Row.Row}, words.{Context.Context, ContextualWords.ContextualWords}}, Items.{is_simple, is_end, must_override}}
 use Rattle.vb_syntax.specs.declared.declaration.FunctionKind.TheVariants as function
-use Rattle.vb_syntax.specs.declared.item.BlockWord.{BlockWord}
 use Rattle.vb_syntax.specs.declared.item.BlockWord.TheVariants as block
-use Rattle.vb_syntax.specs.declared.item.DeclarationLine.{DeclarationLine}
 use Rattle.vb_syntax.specs.declared.item.DeclarationLine.TheVariants as line
-use Rattle.vb_syntax.specs.declared.item.Joint.{Joint}
 use Rattle.vb_syntax.specs.declared.item.Joint.TheVariants as joint
-use Rattle.vb_syntax.specs.declared.item.Item.{Item}
 use Rattle.vb_syntax.specs.declared.item.Item.TheVariants as item
-use Rattle.vb_syntax.specs.declared.item.Row.{Row}
-use Rattle.vb_syntax.specs.declared.words.Context.{Context}
-use Rattle.vb_syntax.specs.declared.words.ContextualWords.{ContextualWords}
-use Rattle.vb_syntax.specs.Items.{is_simple, is_end, must_override}
 use Rattle.vb_parse_stmt.specs.Items.{IsItem}
 use Rattle.vb_rows.specs.Pieces.{Piece, label_of, pieces_of}
 

@@ -2,10 +2,8 @@
 use Rattle.std.proofs.Common.{◌≡◌, ℕ, List, length, map, slice_get, Some, codes, ap, sym, ◌∙◌}
 use Rattle.std.proofs.lemmas.List.{length-map}
 use Rattle.std.specs.Str.{chars}
-use Rattle.vb_text.specs.Names.{folding, AreApart, IsNameOf}
-use Rattle.vb_text.specs.declared.names.Name.{Name}
-use Rattle.vb_syntax.specs.ContextualWords.{AreWords, OptionsApart}
-use Rattle.vb_syntax.specs.declared.words.ContextualWords.{ContextualWords}
+use Rattle.vb_text.specs.{Names.{folding, AreApart, IsNameOf}, declared.names.Name.Name}
+use Rattle.vb_syntax.specs.{ContextualWords.{AreWords, OptionsApart}, declared.words.ContextualWords.ContextualWords}
 
 -- a folding is as long as its text
 folding_length : (text : List ℕ) → length (folding text) ≡ length (chars text)

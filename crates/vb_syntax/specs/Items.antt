@@ -1,11 +1,9 @@
 -- What is asked of items, of joints and of modifiers, wherever they stand.
 use Rattle.std.specs.Prelude.{Bool, true, false, List}
 use Rattle.std.specs.List.{list_any}
-use Rattle.vb_syntax.specs.declared.declaration.Modifier.{Modifier}
+use Rattle.vb_syntax.specs.declared.{declaration.Modifier.Modifier, item.{Item.Item, Joint.Joint}}
 use Rattle.vb_syntax.specs.declared.declaration.Modifier.TheVariants as modifier
-use Rattle.vb_syntax.specs.declared.item.Item.{Item}
 use Rattle.vb_syntax.specs.declared.item.Item.TheVariants as item
-use Rattle.vb_syntax.specs.declared.item.Joint.{Joint}
 use Rattle.vb_syntax.specs.declared.item.Joint.TheVariants as joint
 
 -- a statement without a block; a label is none (Visual Basic Language Specification 11.0, 10.1 and 10.8.1)

@@ -1,8 +1,7 @@
 -- The texts of the tokens that have one text each.
 use Rattle.std.specs.Prelude.{ℕ, List, codes}
-use Rattle.vb_syntax.specs.declared.keyword.Keyword.{Keyword}
+use Rattle.vb_syntax.specs.declared.{keyword.Keyword.Keyword, symbol.Symbol.Symbol}
 use Rattle.vb_syntax.specs.declared.keyword.Keyword.TheVariants as word
-use Rattle.vb_syntax.specs.declared.symbol.Symbol.{Symbol}
 use Rattle.vb_syntax.specs.declared.symbol.Symbol.TheVariants as sign
 
 -- a reserved word in lower case (Visual Basic Language Specification 11.0, 2.3)

@@ -1,14 +1,7 @@
 -- A thread that goes on with another asks what the other asks, and its steps are paid for by the statements that it begins.
 use Rattle.std.proofs.Common.{◌≡◌, ℕ, zero, suc, ◌+◌, ◌*◌, ◌≤◌, Bool, true, false, List, refl, sym, ◌∙◌, ap, subst, arith}
-use Rattle.vb_threads.specs.Machine.{Over, Next, Silent, Asks, Rests, Machine, state_of, begins_of, quiet, begun, IsSettled}
-use Rattle.vb_threads.specs.World.{World, Entry, Run, opening}
-use Rattle.vb_threads.specs.Same.{AsksAlike, RestsAlike, Same, Equal, EqualFor}
-use Rattle.vb_threads.specs.Stands.{StandsFor}
-use Rattle.vb_threads.specs.Work.{IsWithin}
-use Rattle.vb_threads.specs.Steps.{Passes, GoesWith, meets, silent, asks, rests, BySteps, RunsAlone}
-use Rattle.vb_threads.proofs.Stepwise.{quiet-add, begun-add, OneStep, settled_ask, settled_rest, same_by_steps}
-use Rattle.vb_threads.proofs.Law.{lifted}
-use Rattle.vb_threads.proofs.Work.{bounded}
+use Rattle.vb_threads.specs.{Machine.{Over, Next, Silent, Asks, Rests, Machine, state_of, begins_of, quiet, begun, IsSettled}, World.{World, Entry, Run, opening}, Same.{AsksAlike, RestsAlike, Same, Equal, EqualFor}, Stands.StandsFor, Work.IsWithin, Steps.{Passes, GoesWith, meets, silent, asks, rests, BySteps, RunsAlone}}
+use Rattle.vb_threads.proofs.{Stepwise.{quiet-add, begun-add, OneStep, settled_ask, settled_rest, same_by_steps}, Law.lifted, Work.bounded}
 
 module _ {S A R : Type 0} {next : S → Next S A R} where
   -- no step

@@ -1,10 +1,6 @@
 -- One program does each step of another by a script of several asks, of which one is committed.
 use Rattle.std.specs.Prelude.{◌≡◌, ℕ, ◌+◌, Bool, true, false, List, [], ◌∷◌, ◌⊎◌, Some, None}
-use Rattle.vb_threads.specs.Machine.{Sign, Next, Silent, Asks, Rests, Machine, quiet, begun, IsSettled}
-use Rattle.vb_threads.specs.World.{World, Entry, at, put}
-use Rattle.vb_threads.specs.Stands.{sign, IsStuck, Answered}
-use Rattle.vb_threads.specs.Same.{RestsAlike}
-use Rattle.vb_threads.specs.Holding.{with_born_held}
+use Rattle.vb_threads.specs.{Machine.{Sign, Next, Silent, Asks, Rests, Machine, quiet, begun, IsSettled}, World.{World, Entry, at, put}, Stands.{sign, IsStuck, Answered}, Same.RestsAlike, Holding.with_born_held}
 
 -- H is where a thread stands in its scripts, with what it knows and owns of the store there. Related h s n u: a thread of q that stands at h is in state s, has begun
 -- n statements since the last ask that both made, and p's was in state u then. StoresMatch hs v w: the stores correspond while the threads stand at hs.

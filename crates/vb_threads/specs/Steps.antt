@@ -1,7 +1,6 @@
 -- One thread goes on with another: each step of the first is none, one or several steps of the second.
 use Rattle.std.specs.Prelude.{◌≡◌, ℕ, ◌+◌, ◌*◌, ◌≤◌, Bool, true, false, List, None}
-use Rattle.vb_threads.specs.Machine.{Over, Next, Silent, Asks, Rests, Rows, Machine, quiet, begun}
-use Rattle.vb_threads.specs.Same.{RowsAgree}
+use Rattle.vb_threads.specs.{Machine.{Over, Next, Silent, Asks, Rests, Rows, Machine, quiet, begun}, Same.RowsAgree}
 
 -- silent steps that begin so many statements lead a thread from u to u'
 pub record Passes {S A R : Type 0} (next : S → Next S A R) (begins : ℕ) (u u' : S) : Type 0 where

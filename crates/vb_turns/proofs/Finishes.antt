@@ -2,23 +2,11 @@
 use Rattle.std.proofs.Common.{◌≡◌, inl, inr, ℕ, zero, suc, ◌+◌, ◌<◌, ◌≤◌, Bool, List, [], ◌∷◌, ◌++◌, map, length, Option, Some, None, refl, sym, ap, subst, ◌∙◌, arith, lit<}
 use Rattle.std.specs.Prelude.{Contains}
 use Rattle.std.specs.Io.KnownBytes.{Appends}
-use Rattle.vb_threads.specs.Machine.{Sign, HasThrown, IsTooDeep, AsksNew, AsksWrite, quiet, begun}
-use Rattle.vb_threads.specs.World.{Run as Legal, at, opening}
-use Rattle.vb_threads.specs.Stands.{Comes, sign, IsStuck}
-use Rattle.vb_threads.specs.Schedule.{Reaches, ShowsNow, Stop as ThreadStop, Ended as AllHaveEnded, Uncaught as UncaughtStop, AllWaiting, HeapLimit as NoHeap, DepthLimit}
-use Rattle.vb_value.specs.Store.{Ask, New, Write, End, sign_of}
-use Rattle.vb_value.specs.declared.stop.Limits.{Limits}
-use Rattle.vb_value.specs.declared.stop.Stop.{Stop}
-use Rattle.vb_value.specs.declared.stop.Stop.TheVariants.{Ended, Uncaught, HeapLimit, TurnLimit, WriteFault, Memory}
-use Rattle.vb_code.specs.declared.local.Position.TheVariants.{Thrown}
-use Rattle.vb_code.specs.Code.{Code, class_name}
-use Rattle.vb_code.specs.Machine.{CodeThread, code_next, code_machine}
-use Rattle.vb_code.specs.Local.{thread_at, thread_of}
+use Rattle.vb_threads.specs.{Machine.{Sign, HasThrown, IsTooDeep, AsksNew, AsksWrite, quiet, begun}, World.{Run as Legal, at, opening}, Stands.{Comes, sign, IsStuck}, Schedule.{Reaches, ShowsNow, Stop as ThreadStop, Ended as AllHaveEnded, Uncaught as UncaughtStop, AllWaiting, HeapLimit as NoHeap, DepthLimit}}
+use Rattle.vb_value.specs.{Store.{Ask, New, Write, End, sign_of}, declared.stop.{Limits.Limits, Stop.{Stop, TheVariants.{Ended, Uncaught, HeapLimit, TurnLimit, WriteFault, Memory}}}}
+use Rattle.vb_code.specs.{declared.local.Position.TheVariants.Thrown, Code.{Code, class_name}, Machine.{CodeThread, code_next, code_machine}, Local.{thread_at, thread_of}}
 use Rattle.vb_frames.specs.Frames.{AsksNow, asked}
-use Rattle.vb_turns.specs.declared.alone.Run.{Run}
-use Rattle.vb_turns.specs.declared.alone.Running.{Running}
-use Rattle.vb_turns.specs.Ran.{Ran, entry_of, AreMains, ShowsIn, StandsIn, ShowsBy, StandsBy}
-use Rattle.vb_turns.specs.Stage.{Stage, IsStage, Ends, EndsBy, HasMore, units_asked}
+use Rattle.vb_turns.specs.{declared.alone.{Run.Run, Running.Running}, Ran.{Ran, entry_of, AreMains, ShowsIn, StandsIn, ShowsBy, StandsBy}, Stage.{Stage, IsStage, Ends, EndsBy, HasMore, units_asked}}
 
 -- the first stage
 pub first_stage : (c : Code) (limits : Limits) (r : Running) → thread_of c r.local ≡ (code_machine c).main → r.local.begun ≡ 0 → r.journal ≡ [] → r.turns ≡ 0 → r.settled ≡ 0 → r.units ≡ 0 → IsStage c limits.heap r [] []

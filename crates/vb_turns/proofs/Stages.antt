@@ -2,34 +2,14 @@
 use Rattle.std.proofs.Common.{◌≡◌, inr, ℕ, zero, suc, ◌+◌, ◌*◌, ◌<◌, ◌≤◌, Bool, true, false, cond, List, [], ◌∷◌, ◌++◌, map, Option, Some, None, refl, sym, ap, ap₂, subst, ◌∙◌, arith, append-nil, append_assoc}
 use Rattle.std.proofs.lemmas.Bool.Decides.{nat_tests}
 use Rattle.std.proofs.lemmas.List.{map-append}
-use Rattle.vb_threads.specs.Machine.{Next, Machine, state_of, begins_of, takes, quiet, begun, taken}
-use Rattle.vb_threads.specs.World.{World, Entry as OneEntry, Does, Run as Legal, at, put, moved, world_after, opening}
-use Rattle.vb_value.specs.Store.{Store, Ask, New, Write, End, after, fits}
-use Rattle.vb_value.specs.declared.journal.Entry.{Entry}
-use Rattle.vb_value.specs.declared.stop.Limits.{Limits}
-use Rattle.vb_code.specs.declared.local.Local.{Local}
-use Rattle.vb_code.specs.Code.{Code}
-use Rattle.vb_code.specs.Machine.{code_next, code_machine}
-use Rattle.vb_code.specs.Local.{thread_of}
-use Rattle.vb_frames.specs.Frames.{AsksNow, RunsOn, asked, given}
-use Rattle.vb_turns.specs.declared.alone.Running.{Running}
-use Rattle.vb_turns.specs.Ran.{entry_of, AreMains}
-use Rattle.vb_turns.specs.Stage.{IsStage, IsFine, IsSame, Leads, Adds, Performs, PutsAll, Ends, EndsBy, GoesOn, units_asked, written_by, ended_by}
+use Rattle.vb_threads.specs.{Machine.{Next, Machine, state_of, begins_of, takes, quiet, begun, taken, Ended as OverEnded}, World.{World, Entry as OneEntry, Does, Run as Legal, at, put, moved, world_after, opening}}
+use Rattle.vb_value.specs.{Store.{Store, Ask, New, Write, End, after, fits}, declared.{journal.Entry.Entry, stop.{Limits.Limits, Stop.{Stop, TheVariants.{Ended, Uncaught, HeapLimit, TurnLimit, WriteFault, Memory}}}, action.Action.{Action, TheVariants.{New as NewAction, Write as WriteAction, End as EndAction}}}, Datum.Datum}
+use Rattle.vb_code.specs.{declared.local.{Local.Local, Position.{Position, TheVariants.{At as AtPlace, Writing, Throwing, Returned as HasReturned, Ended as HasEnded, Thrown}}}, Code.Code, Machine.{code_next, code_machine, Gone}, Local.{thread_of, thread_at, ask_of}, Shapes.IsState}
+use Rattle.vb_frames.specs.Frames.{AsksNow, RunsOn, asked, given, asked_at, given_at}
+use Rattle.vb_turns.specs.{declared.alone.Running.Running, Ran.{entry_of, AreMains}, Stage.{IsStage, IsFine, IsSame, Leads, Adds, Performs, PutsAll, Ends, EndsBy, GoesOn, units_asked, written_by, ended_by}}
 use Rattle.std.specs.Io.KnownBytes.{Appends, Keeps}
 use Rattle.std.proofs.KnownBytes.{Appends-trans, Appends-nil}
 use Rattle.vb_io.specs.Causes.{Rose}
-use Rattle.vb_threads.specs.Machine.{Ended as OverEnded}
-use Rattle.vb_value.specs.Datum.{Datum}
-use Rattle.vb_value.specs.declared.action.Action.{Action}
-use Rattle.vb_value.specs.declared.action.Action.TheVariants.{New as NewAction, Write as WriteAction, End as EndAction}
-use Rattle.vb_value.specs.declared.stop.Stop.{Stop}
-use Rattle.vb_value.specs.declared.stop.Stop.TheVariants.{Ended, Uncaught, HeapLimit, TurnLimit, WriteFault, Memory}
-use Rattle.vb_code.specs.declared.local.Position.{Position}
-use Rattle.vb_code.specs.declared.local.Position.TheVariants.{At as AtPlace, Writing, Throwing, Returned as HasReturned, Ended as HasEnded, Thrown}
-use Rattle.vb_code.specs.Shapes.{IsState}
-use Rattle.vb_code.specs.Machine.{Gone}
-use Rattle.vb_code.specs.Local.{thread_at, ask_of}
-use Rattle.vb_frames.specs.Frames.{asked_at, given_at}
 
 module _ {S A R : Type 0} (next : S → Next S A R) where
   quiet-add : (j k : ℕ) (s : S) → quiet next (j + k) s ≡ quiet next k (quiet next j s)

@@ -3,17 +3,9 @@ use Rattle.std.specs.Prelude.{◌≡◌, ℕ, ◌+◌, ◌<◌, ◌≤◌, ◌++
 use Rattle.std.specs.Io.KnownBytes.{Appends}
 use Rattle.vb_io.specs.Causes.{Rose}
 use Rattle.vb_text.specs.Units.{utf8_of}
-use Rattle.vb_threads.specs.Machine.{Sign, AsksWrite, quiet, begun, taken}
-use Rattle.vb_threads.specs.World.{Thread, World, Run as Legal, opening, Entry as OneEntry}
-use Rattle.vb_threads.specs.Stands.{sign, IsStuck}
-use Rattle.vb_threads.specs.Schedule.{Reaches, Stop as ThreadStop, Ended as AllHaveEnded, Uncaught as HasThrown, HeapLimit as NoHeap, StopSays}
-use Rattle.vb_value.specs.Store.{Store, seen}
-use Rattle.vb_value.specs.declared.journal.Entry.{Entry}
-use Rattle.vb_value.specs.declared.stop.Limits.{Limits}
-use Rattle.vb_value.specs.declared.stop.Stop.{Stop}
-use Rattle.vb_value.specs.declared.stop.Stop.TheVariants.{Ended, Uncaught, HeapLimit, TurnLimit, WriteFault, Memory}
-use Rattle.vb_code.specs.Code.{Code, class_name}
-use Rattle.vb_code.specs.Machine.{CodeThread, code_next, code_machine}
+use Rattle.vb_threads.specs.{Machine.{Sign, AsksWrite, quiet, begun, taken}, World.{Thread, World, Run as Legal, opening, Entry as OneEntry}, Stands.{sign, IsStuck}, Schedule.{Reaches, Stop as ThreadStop, Ended as AllHaveEnded, Uncaught as HasThrown, HeapLimit as NoHeap, StopSays}}
+use Rattle.vb_value.specs.{Store.{Store, seen}, declared.{journal.Entry.Entry, stop.{Limits.Limits, Stop.{Stop, TheVariants.{Ended, Uncaught, HeapLimit, TurnLimit, WriteFault, Memory}}}}}
+use Rattle.vb_code.specs.{Code.{Code, class_name}, Machine.{CodeThread, code_next, code_machine}}
 use Rattle.vb_turns.specs.declared.alone.Run.{Run}
 
 -- one recorded action, as the entry of a journal of threads

@@ -1,27 +1,13 @@
 -- A run so far, and what one ask or a stop makes of it.
 use Rattle.std.specs.Prelude.{◌≡◌, ◌⊎◌, ℕ, ◌+◌, ◌*◌, ◌<◌, ◌≤◌, ◌++◌, Bool, cond, List, [], ◌∷◌, map, length, Option, Some, None}
 use Rattle.std.specs.Io.KnownBytes.{Appends, Keeps}
-use Rattle.vb_io.specs.Causes.{Rose}
-use Rattle.vb_io.specs.Outside.{AppendsPart}
+use Rattle.vb_io.specs.{Causes.Rose, Outside.AppendsPart}
 use Rattle.vb_text.specs.Units.{utf8_of}
-use Rattle.vb_threads.specs.Machine.{quiet, begun, taken}
-use Rattle.vb_threads.specs.World.{Thread, World, Run as Legal, opening}
-use Rattle.vb_value.specs.Store.{Store, Ask, New, Write, End}
-use Rattle.vb_value.specs.declared.action.Action.{Action}
-use Rattle.vb_value.specs.declared.action.Action.TheVariants.{New as NewAction, Write as WriteAction, End as EndAction}
-use Rattle.vb_value.specs.declared.stop.Limits.{Limits}
-use Rattle.vb_value.specs.declared.stop.Stop.{Stop}
-use Rattle.vb_value.specs.declared.stop.Stop.TheVariants.{Ended, Uncaught, HeapLimit, TurnLimit, WriteFault, Memory}
-use Rattle.vb_code.specs.declared.local.Position.TheVariants.{Ended as HasEnded, Thrown}
-use Rattle.vb_code.specs.Code.{Code}
-use Rattle.vb_code.specs.Machine.{CodeThread, code_next, code_machine}
-use Rattle.vb_code.specs.Shapes.{IsState}
-use Rattle.vb_code.specs.Local.{thread_of, ask_of}
-use Rattle.vb_frames.specs.declared.run.Pause.{Pause}
-use Rattle.vb_frames.specs.declared.run.Pause.TheVariants.{Ask as AskPause, Spent, Uncaught as UncaughtPause, Memory as MemoryPause}
-use Rattle.vb_frames.specs.Frames.{AsksNow, HasStep, asked, given}
-use Rattle.vb_turns.specs.declared.alone.Running.{Running}
-use Rattle.vb_turns.specs.Ran.{entry_of, AreMains}
+use Rattle.vb_threads.specs.{Machine.{quiet, begun, taken}, World.{Thread, World, Run as Legal, opening}}
+use Rattle.vb_value.specs.{Store.{Store, Ask, New, Write, End}, declared.{action.Action.{Action, TheVariants.{New as NewAction, Write as WriteAction, End as EndAction}}, stop.{Limits.Limits, Stop.{Stop, TheVariants.{Ended, Uncaught, HeapLimit, TurnLimit, WriteFault, Memory}}}}}
+use Rattle.vb_code.specs.{declared.local.Position.TheVariants.{Ended as HasEnded, Thrown}, Code.Code, Machine.{CodeThread, code_next, code_machine}, Shapes.IsState, Local.{thread_of, ask_of}}
+use Rattle.vb_frames.specs.{declared.run.Pause.{Pause, TheVariants.{Ask as AskPause, Spent, Uncaught as UncaughtPause, Memory as MemoryPause}}, Frames.{AsksNow, HasStep, asked, given}}
+use Rattle.vb_turns.specs.{declared.alone.Running.Running, Ran.{entry_of, AreMains}}
 
 -- The journal is legal and leads to a world with this console and these ended threads, from which the thread has come on
 -- to where it is; the counts are those of that run.

@@ -1,11 +1,7 @@
 -- What values mean.
 use Rattle.std.specs.Prelude.{ℕ, ℤ, pos, Bool, false, List, [], Option, Some, None}
 use Rattle.vb_num.specs.declared.kinds.Kind.{Kind}
-use Rattle.vb_value.specs.declared.value.Ref.{Ref}
-use Rattle.vb_value.specs.declared.value.Value.{Value}
-use Rattle.vb_value.specs.declared.value.Value.TheVariants.{Num as OfNum, Bool as OfBool, Text as OfText, Ref as OfRef}
-use Rattle.vb_value.specs.declared.value.Shape.{Shape}
-use Rattle.vb_value.specs.declared.value.Shape.TheVariants.{Num as NumShape, Bool as BoolShape, Text as TextShape, Ref as RefShape}
+use Rattle.vb_value.specs.declared.value.{Ref.Ref, Value.{Value, TheVariants.{Num as OfNum, Bool as OfBool, Text as OfText, Ref as OfRef}}, Shape.{Shape, TheVariants.{Num as NumShape, Bool as BoolShape, Text as TextShape, Ref as RefShape}}}
 
 -- A whole number of a kind, a Boolean, a text as its UTF-16 units, or an object by its number. The last two may be Nothing.
 -- (Visual Basic Language Specification 11.0, 7.3 and 7.4)

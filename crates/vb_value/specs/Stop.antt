@@ -1,7 +1,6 @@
 -- Exit statuses.
 use Rattle.std.specs.Prelude.{ℕ}
-use Rattle.vb_value.specs.declared.stop.Status.{Status}
-use Rattle.vb_value.specs.declared.stop.Status.TheVariants.{Ended, Refused, Usage, Uncaught, AllWaiting, Heap, Turns, Depth, Read, Write, Memory, File}
+use Rattle.vb_value.specs.declared.stop.Status.{Status, TheVariants.{Ended, Refused, Usage, Uncaught, AllWaiting, Heap, Turns, Depth, Read, Write, Memory, File}}
 
 abbrev pub status_code : Status → ℕ
 status_code Ended = 0

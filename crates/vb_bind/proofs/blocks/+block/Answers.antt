@@ -2,8 +2,7 @@ use Rattle.std.proofs.Common.{◌≡◌, Some, None, subst, rules}
 use Rattle.vb_syntax.specs.declared.statement.StatementForm.TheVariants as form
 use Rattle.vb_bound.specs.Tree.{Done, Then, Loop}
 use Rattle.vb_bind.specs.Parsing.{statement_read, test_read, IsGoodBlock, IsNoBlock}
-use Rattle.vb_bind.proofs.Nested.{joined, joined_pushed}
-use Rattle.vb_bind.proofs.Steps.{ok_so, none_at, more_good, loop_good, then_good, test_none, inner_none, statement_none}
+use Rattle.vb_bind.proofs.{Nested.{joined, joined_pushed}, Steps.{ok_so, none_at, more_good, loop_good, then_good, test_none, inner_none, statement_none}}
 use Rattle.vb_bind.proofs.blocks.+block.Goals as goal
 
 pub push_block-returns-in_err-push_statement-clause-refused :

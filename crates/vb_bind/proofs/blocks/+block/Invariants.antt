@@ -1,6 +1,5 @@
 use Rattle.std.proofs.Common.{◌≡◌, ◌++◌, take}
-use Rattle.vb_bound.specs.Tree.{Block as BoundBlock}
-use Rattle.vb_bound.specs.Tree.{lines_of}
+use Rattle.vb_bound.specs.Tree.{Block as BoundBlock, lines_of}
 use Rattle.vb_bind.specs.Parsing.{IsGoodBlock}
 use Rattle.vb_bind.proofs.blocks.+block.Given as goal
 

@@ -1,9 +1,6 @@
 use Rattle.std.proofs.Common.{Option, sym, subst}
 use Rattle.vb_syntax.specs.declared.item.Item.TheVariants as item
-use Rattle.vb_blocks.specs.declared.fault.Fault.{Fault}
-use Rattle.vb_blocks.specs.declared.frame.Turn.{Turn}
-use Rattle.vb_blocks.specs.Trees.{enclosed}
-use Rattle.vb_blocks.specs.Steps.{Fails, enclosed_whole}
+use Rattle.vb_blocks.specs.{declared.{fault.Fault.Fault, frame.Turn.Turn}, Trees.enclosed, Steps.{Fails, enclosed_whole}}
 use Rattle.vb_blocks.proofs.Parts.{not_loop}
 use Rattle.vb_blocks.proofs.endings.looped.Goals as goal
 

@@ -1,9 +1,7 @@
 use Rattle.std.proofs.Common.{Option, sym, subst}
-use Rattle.vb_syntax.specs.declared.item.BlockWord.{BlockWord}
-use Rattle.vb_syntax.specs.declared.item.Item.{Item}
+use Rattle.vb_syntax.specs.declared.item.{BlockWord.BlockWord, Item.Item}
 use Rattle.vb_syntax.specs.declared.item.Item.TheVariants as item
-use Rattle.vb_blocks.specs.Trees.{procedure}
-use Rattle.vb_blocks.specs.Steps.{Gives, word_of, procedure_end, procedure_whole}
+use Rattle.vb_blocks.specs.{Trees.procedure, Steps.{Gives, word_of, procedure_end, procedure_whole}}
 use Rattle.vb_blocks.proofs.Parts.{turn_as, procedure_ends}
 use Rattle.vb_blocks.proofs.procedure_ends.procedure.Goals as goal
 

@@ -1,7 +1,6 @@
 use Rattle.std.proofs.Common.{◌≡◌, ◌++◌, ◌∷◌, [], ◌-◌, take, vec_len, sym, ap, ◌∙◌, subst, arith}
 use Rattle.std.proofs.lemmas.Result.{on_ok_weaker}
-use Rattle.vb_bound.specs.declared.tree.Line.{Line}
-use Rattle.vb_bound.specs.declared.tree.Line.TheVariants.{EndWhile}
+use Rattle.vb_bound.specs.declared.tree.Line.{Line, TheVariants.EndWhile}
 use Rattle.vb_codegen.specs.Emission.{CanComplete, Goes}
 use Rattle.vb_codegen.proofs.Emission.{does_goes, while_goes, end_goes, is_open, none_ends, on_ok_both}
 use Rattle.vb_codegen.proofs.lines.emit_line.Goals as goal

@@ -1,7 +1,6 @@
 use Rattle.std.proofs.Common.{◌≡◌, ◌++◌, length, drop}
 use Rattle.vb_bound.specs.Tree.{Block, lines_of}
-use Rattle.vb_codegen.specs.Emitted.{block_code}
-use Rattle.vb_codegen.specs.Emission.{Completes}
+use Rattle.vb_codegen.specs.{Emitted.block_code, Emission.Completes}
 use Rattle.vb_codegen.proofs.lines.emit_lines.Given as goal
 
 abbrev pub invariant-loop-line : goal.invariant-loop-line

@@ -1,13 +1,10 @@
 use Rattle.std.proofs.Common.{◌≡◌, sym, ◌∙◌, refl, subst}
 use Rattle.vb_bound.specs.Tree.{Tree, IsOutlineOf}
-use Rattle.vb_code.specs.Code.{Code}
-use Rattle.vb_code.specs.Machine.{code_machine}
-use Rattle.vb_code.specs.Shapes.{IsChecked}
+use Rattle.vb_code.specs.{Code.Code, Machine.code_machine, Shapes.IsChecked}
 use Rattle.vb_meaning.specs.Source.{source_machine}
 use Rattle.vb_threads.specs.Stands.{StandsFor}
 use Rattle.vb_codegen.specs.Emitted.{code_of}
-use Rattle.vb_codegen.proofs.Standing.{IsPacedCode, stands, paced}
-use Rattle.vb_codegen.proofs.Shaped.{is_checked}
+use Rattle.vb_codegen.proofs.{Standing.{IsPacedCode, stands, paced}, Shaped.is_checked}
 use Rattle.vb_codegen.proofs.program.generate.Goals as goal
 
 pub new-requires : goal.new-requires

@@ -1,11 +1,5 @@
 use Rattle.std.proofs.Common.{pos}
-use Rattle.vb_bound.specs.declared.tree.Operand.{Operand}
-use Rattle.vb_bound.specs.declared.tree.Operand.TheVariants.{Local, Number}
-use Rattle.vb_bound.specs.declared.tree.Operator.TheVariants.{Add}
-use Rattle.vb_bound.specs.declared.tree.Relation.TheVariants.{LessOrEqual}
-use Rattle.vb_bound.specs.declared.tree.Expr.TheVariants.{One, Two}
-use Rattle.vb_bound.specs.declared.tree.Statement.TheVariants.{Assign, WriteLine}
-use Rattle.vb_bound.specs.Tree.{Block, Done, Then, Loop}
+use Rattle.vb_bound.specs.{declared.tree.{Operand.{Operand, TheVariants.{Local, Number}}, Operator.TheVariants.Add, Relation.TheVariants.LessOrEqual, Expr.TheVariants.{One, Two}, Statement.TheVariants.{Assign, WriteLine}}, Tree.{Block, Done, Then, Loop}}
 use Rattle.vb_codegen.proofs.tests.counts_in_eighteen_instructions.Goals as goal
 
 -- the program as a tree

@@ -1,10 +1,8 @@
 use Rattle.std.proofs.Common.{◌∷◌, ◌+◌, inl, inr, reverse, take, drop, get_or, sym, ◌∙◌, subst, arith, rules}
 use Rattle.std.proofs.lemmas.Grind.{common_steps}
-use Rattle.vb_ends.specs.Reading.{HasRead, next_item}
-use Rattle.vb_ends.specs.Roles.{marks_of}
-use Rattle.vb_ends.proofs.Depths.{IsNext, turned_more, item_here, least_next}
+use Rattle.vb_ends.specs.{Reading.{HasRead, next_item}, Roles.marks_of}
+use Rattle.vb_ends.proofs.{Depths.{IsNext, turned_more, item_here, least_next}, depth.first_too_deep.Goals.{then-is_too_deep, else-is_too_deep}}
 use Rattle.vb_ends.proofs.depth.first_too_deep.Goals as goal
-use Rattle.vb_ends.proofs.depth.first_too_deep.Goals.{then-is_too_deep, else-is_too_deep}
 
 pub loop-at-init : goal.loop-at-init
 loop-at-init c = record { read = c.new-reader.ensures (next_item c.args.rows.now); least = λ l h. h }

@@ -1,7 +1,5 @@
 use Rattle.std.proofs.Common.{drop, take, reverse}
-use Rattle.vb_ends.specs.Enders.{IsLeast}
-use Rattle.vb_ends.specs.Depth.{IsTooDeep}
-use Rattle.vb_ends.specs.Reading.{HasRead, next_item}
+use Rattle.vb_ends.specs.{Enders.IsLeast, Depth.IsTooDeep, Reading.{HasRead, next_item}}
 use Rattle.vb_ends.proofs.depth.first_too_deep.Given as goal
 
 abbrev pub invariant-loop-at : goal.invariant-loop-at

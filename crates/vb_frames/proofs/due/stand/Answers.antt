@@ -1,7 +1,6 @@
 use Rattle.std.proofs.Common.{Some, refl}
 use Rattle.vb_code.specs.declared.instr.Instr.TheVariants.{Arith, Concat, Write}
-use Rattle.vb_frames.proofs.Moves.{writes, needs_as}
-use Rattle.vb_frames.proofs.Dues.{silent_act, stands_as}
+use Rattle.vb_frames.proofs.{Moves.{writes, needs_as}, Dues.{silent_act, stands_as}}
 use Rattle.vb_frames.proofs.due.stand.Goals as goal
 
 pub returns-in-Write : goal.returns-in-Write

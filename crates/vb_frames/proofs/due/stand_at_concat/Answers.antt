@@ -1,8 +1,7 @@
 use Rattle.std.proofs.Common.{◌≤◌, ◌<◌, ◌+◌, ◌++◌, length, refl, arith}
 use Rattle.vb_text.specs.Units.{most_units}
 use Rattle.vb_value.specs.Datum.{units_of}
-use Rattle.vb_frames.proofs.Moves.{concat_went, concat_thrown}
-use Rattle.vb_frames.proofs.Dues.{joined_some, joined_none}
+use Rattle.vb_frames.proofs.{Moves.{concat_went, concat_thrown}, Dues.{joined_some, joined_none}}
 use Rattle.vb_frames.proofs.due.stand_at_concat.Goals as goal
 
 pub returns-then-front-back-le-MOST_UNITS : goal.returns-then-front-back-le-MOST_UNITS

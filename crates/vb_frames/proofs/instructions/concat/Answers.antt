@@ -1,8 +1,7 @@
 use Rattle.std.proofs.Common.{◌≡◌, sym, subst, ap₂, ◌∙◌, None}
 use Rattle.std.specs.Prelude.{Err}
 use Rattle.vb_value.specs.Datum.{units_of}
-use Rattle.vb_code.specs.declared.instr.Instr.TheVariants.{Concat}
-use Rattle.vb_code.specs.Machine.{joined}
+use Rattle.vb_code.specs.{declared.instr.Instr.TheVariants.Concat, Machine.joined}
 use Rattle.vb_frames.specs.Turn.{Obeys, JoinsTo}
 use Rattle.vb_frames.proofs.Moves.{concat_thrown}
 use Rattle.vb_frames.proofs.instructions.concat.Goals as goal

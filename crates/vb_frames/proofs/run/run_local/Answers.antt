@@ -1,6 +1,5 @@
 use Rattle.std.proofs.Common.{◌≤◌, ◌+◌, ◌*◌, arith, subst}
-use Rattle.vb_frames.specs.Frames.{PausesAt}
-use Rattle.vb_frames.specs.Turn.{TurnsTo}
+use Rattle.vb_frames.specs.{Frames.PausesAt, Turn.TurnsTo}
 use Rattle.vb_frames.proofs.Turning.{runs_more, kept_going}
 use Rattle.vb_frames.proofs.run.run_local.Goals as goal
 

@@ -1,7 +1,5 @@
 use Rattle.std.proofs.Common.{◌≡◌, ◌+◌, ◌*◌, ◌≤◌}
-use Rattle.vb_code.specs.declared.local.Position.TheVariants.{Ended}
-use Rattle.vb_code.specs.Local.{thread_of}
-use Rattle.vb_code.specs.Shapes.{IsState}
+use Rattle.vb_code.specs.{declared.local.Position.TheVariants.Ended, Local.thread_of, Shapes.IsState}
 use Rattle.vb_frames.specs.Frames.{RunsOn}
 use Rattle.vb_frames.proofs.run.run_local.Given as goal
 

@@ -1,6 +1,5 @@
 use Rattle.std.proofs.Common.{refl, ap, ◌∙◌}
-use Rattle.vb_code.specs.declared.instr.Instr.TheVariants.{PushText, LoadLocal, StoreLocal, Arith, Compare, Intrinsic, JumpIf, Write}
-use Rattle.vb_code.specs.declared.instr.Silent.TheVariants.{TextOf}
+use Rattle.vb_code.specs.declared.instr.{Instr.TheVariants.{PushText, LoadLocal, StoreLocal, Arith, Compare, Intrinsic, JumpIf, Write}, Silent.TheVariants.TextOf}
 use Rattle.vb_frames.specs.declared.turn.Did.TheVariants.{Asked}
 use Rattle.vb_frames.proofs.Moves.{writes, only_text_of, obeys_as, needs_as}
 use Rattle.vb_frames.proofs.turn.obey.Goals as goal

@@ -1,6 +1,5 @@
 use Rattle.std.proofs.Common.{rules, sym, ◌∙◌, arith}
-use Rattle.vb_lexer.specs.Tables.{keywords_a, keywords_b, keywords_c, keywords_d, keywords_e, keywords_f, keywords_g, keywords_h, keywords_i, keywords_l, keywords_m, keywords_n, keywords_o, keywords_p, keywords_r, keywords_s, keywords_t, keywords_u, keywords_v, keywords_w, keywords_x}
-use Rattle.vb_lexer.specs.Tokens.{lowered}
+use Rattle.vb_lexer.specs.{Tables.{keywords_a, keywords_b, keywords_c, keywords_d, keywords_e, keywords_f, keywords_g, keywords_h, keywords_i, keywords_l, keywords_m, keywords_n, keywords_o, keywords_p, keywords_r, keywords_s, keywords_t, keywords_u, keywords_v, keywords_w, keywords_x}, Tokens.lowered}
 use Rattle.vb_lexer.proofs.WordTables.{tables, in_table, no_letter, letters, IsNoneOf}
 use Rattle.vb_lexer.proofs.keywords.keyword_of.Goals as goal
 

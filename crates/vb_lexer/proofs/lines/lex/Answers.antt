@@ -1,17 +1,6 @@
 use Rattle.std.proofs.Common.{◌≡◌, length, take, drop, ap, sym, ◌∙◌, subst, length-drop, arith}
-use Rattle.vb_lexer.specs.Characters.{IsText, without_mark}
-use Rattle.vb_lexer.specs.Pieces.{behind}
-use Rattle.vb_lexer.specs.Lines.{with_piece}
-use Rattle.vb_lexer.specs.Reader.{part}
-use Rattle.vb_lexer.specs.declared.piece.Found.{Found}
-use Rattle.vb_lexer.specs.Progress.{ReadTo, Finishes}
-use Rattle.vb_lexer.proofs.Runs.{empty_of}
-use Rattle.vb_lexer.proofs.Bounds.{piece_bounds}
-use Rattle.vb_lexer.proofs.Lengths.{text_len}
-use Rattle.vb_lexer.proofs.TextPieces.{text_short}
-use Rattle.vb_lexer.proofs.Steps.{TakenBy, read_step}
-use Rattle.vb_lexer.proofs.Files.{nothing_read, file_lines, file_refused}
-use Rattle.vb_lexer.proofs.Unique.{extends_self, extends_trans}
+use Rattle.vb_lexer.specs.{Characters.{IsText, without_mark}, Pieces.behind, Lines.with_piece, Reader.part, declared.piece.Found.Found, Progress.{ReadTo, Finishes}}
+use Rattle.vb_lexer.proofs.{Runs.empty_of, Bounds.piece_bounds, Lengths.text_len, TextPieces.text_short, Steps.{TakenBy, read_step}, Files.{nothing_read, file_lines, file_refused}, Unique.{extends_self, extends_trans}}
 use Rattle.vb_lexer.proofs.lines.lex.Goals as goal
 
 pub loop-rest-init : goal.loop-rest-init

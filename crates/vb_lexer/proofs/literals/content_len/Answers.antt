@@ -1,9 +1,7 @@
 use Rattle.std.proofs.Common.{◌≡◌, ◌∙◌, ap, sym, true, false, ◌+◌, Some, arith}
-use Rattle.vb_lexer.specs.Tokens.{char_at, plus_some, content_len}
-use Rattle.vb_lexer.specs.Characters.{is_char, is_line_end}
-use Rattle.vb_lexer.proofs.Quotes.{content_stops, content_ends, content_on, content_within, content_past}
+use Rattle.vb_lexer.specs.{Tokens.{char_at, plus_some, content_len}, Characters.{is_char, is_line_end}}
+use Rattle.vb_lexer.proofs.{Quotes.{content_stops, content_ends, content_on, content_within, content_past}, literals.content_len.Goals.{else-quote-via-then-quote+else-not-is_at, else-quote-via-else-quote}}
 use Rattle.vb_lexer.proofs.literals.content_len.Goals as goal
-use Rattle.vb_lexer.proofs.literals.content_len.Goals.{else-quote-via-then-quote+else-not-is_at, else-quote-via-else-quote}
 
 pub returns-then-is_line_end-clause-len : goal.returns-then-is_line_end-clause-len
 returns-then-is_line_end-clause-len c =

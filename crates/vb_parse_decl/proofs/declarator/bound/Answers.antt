@@ -1,9 +1,6 @@
 use Rattle.std.proofs.Common.{rules, ◌≡◌, true, false, Err, arith, ◌∙◌, sym, ap, drop}
-use Rattle.vb_parse_decl.specs.Parts.{IsExpression}
-use Rattle.vb_parse_decl.specs.Declarators.{IsBound}
-use Rattle.vb_parse_decl.specs.DeclaredReading.{IsPartAt, anything, is_closing, begins_opening}
-use Rattle.vb_parse_decl.proofs.DeclaredParts.{bound_at, no_bound, no_opening, opening_first, inside, closed_inside}
-use Rattle.vb_parse_decl.proofs.DeclaredFinds.{found_on}
+use Rattle.vb_parse_decl.specs.{Parts.IsExpression, Declarators.IsBound, DeclaredReading.{IsPartAt, anything, is_closing, begins_opening}}
+use Rattle.vb_parse_decl.proofs.{DeclaredParts.{bound_at, no_bound, no_opening, opening_first, inside, closed_inside}, DeclaredFinds.found_on}
 use Rattle.vb_parse_decl.proofs.declarator.bound.Goals as goal
 
 pub returns-then-not-begins_opening : goal.returns-then-not-begins_opening

@@ -1,9 +1,6 @@
 use Rattle.std.proofs.Common.{rules, ◌≡◌, ◌+◌, true, false, Some, None, Err, arith, ◌∙◌, sym, ap, drop}
-use Rattle.vb_parse_decl.specs.Parts.{AreListed, IsExpression}
-use Rattle.vb_parse_decl.specs.Declarators.{IsIdentifier, IsNew, IsDeclarator}
-use Rattle.vb_parse_decl.specs.DeclaredReading.{IsPartAt, IsTyped, is_over, is_as, begins_new, inferred_name}
-use Rattle.vb_parse_decl.proofs.DeclaredDeclarators.{Readings, inferred_found, typed_found, new_found, no_inferred_value, no_names, no_made_new, no_type_behind}
-use Rattle.vb_parse_decl.proofs.DeclaredFinds.{found_on}
+use Rattle.vb_parse_decl.specs.{Parts.{AreListed, IsExpression}, Declarators.{IsIdentifier, IsNew, IsDeclarator}, DeclaredReading.{IsPartAt, IsTyped, is_over, is_as, begins_new, inferred_name}}
+use Rattle.vb_parse_decl.proofs.{DeclaredDeclarators.{Readings, inferred_found, typed_found, new_found, no_inferred_value, no_names, no_made_new, no_type_behind}, DeclaredFinds.found_on}
 use Rattle.vb_parse_decl.proofs.declarator.declarator.Goals as goal
 
 pub returns-in_err-value : goal.returns-in_err-value

@@ -1,13 +1,7 @@
 use Rattle.std.proofs.Common.{rules, ◌≡◌, ◌+◌, ◌-◌, List, [], ◌∷◌, ◌++◌, length, Err, refl, arith, ◌∙◌, sym, subst, drop, length-drop}
 use Rattle.vb_syntax.specs.declared.declarator.Declarator.{Declarator}
-use Rattle.vb_parse_decl.specs.Parts.{AreListed}
-use Rattle.vb_parse_decl.specs.Declarators.{IsDeclarator}
-use Rattle.vb_parse_decl.specs.DeclaredReading.{IsPartAt, is_end, is_over}
-use Rattle.vb_parse_decl.proofs.DeclaredParts.{whole_part, part_whole}
-use Rattle.vb_parse_decl.proofs.DeclaredLists.{Leads, leads_on, leads_to, no_first}
-use Rattle.vb_parse_decl.proofs.DeclaredNames.{declarator_ends, comma_over}
-use Rattle.vb_parse_decl.proofs.DeclaredDeclarators.{Readings, one_declarator, end_at, declarators_long}
-use Rattle.vb_parse_decl.proofs.DeclaredFinds.{told_on}
+use Rattle.vb_parse_decl.specs.{Parts.AreListed, Declarators.IsDeclarator, DeclaredReading.{IsPartAt, is_end, is_over}}
+use Rattle.vb_parse_decl.proofs.{DeclaredParts.{whole_part, part_whole}, DeclaredLists.{Leads, leads_on, leads_to, no_first}, DeclaredNames.{declarator_ends, comma_over}, DeclaredDeclarators.{Readings, one_declarator, end_at, declarators_long}, DeclaredFinds.told_on}
 use Rattle.vb_parse_decl.proofs.declarator.declarators.Goals as goal
 
 pub returns-in_err-one : goal.returns-in_err-one

@@ -1,5 +1,4 @@
-use Rattle.vb_parse_decl.specs.Declarators.{IsDeclarator}
-use Rattle.vb_parse_decl.specs.DeclaredReading.{is_end}
+use Rattle.vb_parse_decl.specs.{Declarators.IsDeclarator, DeclaredReading.is_end}
 use Rattle.vb_parse_decl.proofs.DeclaredLists.{Leads}
 use Rattle.std.proofs.Common.{length, ◌-◌}
 use Rattle.vb_parse_decl.proofs.declarator.declarators.Given as goal

@@ -1,8 +1,6 @@
 use Rattle.std.proofs.Common.{rules, ◌≡◌, Some, None, Err, arith, ◌∙◌, sym, ap, drop}
-use Rattle.vb_parse_decl.specs.Declarators.{IsIdentifier}
-use Rattle.vb_parse_decl.specs.DeclaredReading.{IsPartAt, IsModifier, ends_identifier, first_name}
-use Rattle.vb_parse_decl.proofs.DeclaredNames.{identifier_at, no_identifier, no_name}
-use Rattle.vb_parse_decl.proofs.DeclaredFinds.{found_on}
+use Rattle.vb_parse_decl.specs.{Declarators.IsIdentifier, DeclaredReading.{IsPartAt, IsModifier, ends_identifier, first_name}}
+use Rattle.vb_parse_decl.proofs.{DeclaredNames.{identifier_at, no_identifier, no_name}, DeclaredFinds.found_on}
 use Rattle.vb_parse_decl.proofs.declarator.identifier.Goals as goal
 
 pub returns-in_default : goal.returns-in_default

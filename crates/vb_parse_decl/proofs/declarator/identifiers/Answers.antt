@@ -1,11 +1,7 @@
 use Rattle.std.proofs.Common.{rules, ◌≡◌, ◌+◌, ◌-◌, true, false, List, [], ◌∷◌, ◌++◌, Err, arith, ◌∙◌, sym, ap, subst, drop}
 use Rattle.vb_syntax.specs.declared.declarator.VariableIdentifier.{VariableIdentifier}
-use Rattle.vb_parse_decl.specs.Parts.{AreListed}
-use Rattle.vb_parse_decl.specs.Declarators.{IsIdentifier}
-use Rattle.vb_parse_decl.specs.DeclaredReading.{IsPartAt, is_as, ends_identifier}
-use Rattle.vb_parse_decl.proofs.DeclaredLists.{Leads, leads_on, leads_to, no_first}
-use Rattle.vb_parse_decl.proofs.DeclaredNames.{one_identifier, identifier_ends, comma_behind}
-use Rattle.vb_parse_decl.proofs.DeclaredFinds.{found_on}
+use Rattle.vb_parse_decl.specs.{Parts.AreListed, Declarators.IsIdentifier, DeclaredReading.{IsPartAt, is_as, ends_identifier}}
+use Rattle.vb_parse_decl.proofs.{DeclaredLists.{Leads, leads_on, leads_to, no_first}, DeclaredNames.{one_identifier, identifier_ends, comma_behind}, DeclaredFinds.found_on}
 use Rattle.vb_parse_decl.proofs.declarator.identifiers.Goals as goal
 
 pub returns-in_err-one : goal.returns-in_err-one

@@ -1,5 +1,4 @@
-use Rattle.vb_parse_decl.specs.Declarators.{IsIdentifier}
-use Rattle.vb_parse_decl.specs.DeclaredReading.{is_as}
+use Rattle.vb_parse_decl.specs.{Declarators.IsIdentifier, DeclaredReading.is_as}
 use Rattle.vb_parse_decl.proofs.DeclaredLists.{Leads}
 use Rattle.std.proofs.Common.{length, ◌-◌}
 use Rattle.vb_parse_decl.proofs.declarator.identifiers.Given as goal

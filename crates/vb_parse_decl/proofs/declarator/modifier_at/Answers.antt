@@ -1,9 +1,7 @@
 use Rattle.std.proofs.Common.{rules, ◌≡◌, ◌+◌, ◌-◌, true, false, Err, arith, ◌∙◌, sym, ap, drop}
 use Rattle.std.proofs.lemmas.List.{drop-drop}
-use Rattle.vb_parse_decl.specs.Declarators.{IsBound}
-use Rattle.vb_parse_decl.specs.DeclaredReading.{IsPartAt, IsModifier, anything, ends_identifier, begins_array}
-use Rattle.vb_parse_decl.proofs.DeclaredNames.{array_at, no_array_end, no_modifier, other_modifier, bound_modifier}
-use Rattle.vb_parse_decl.proofs.DeclaredFinds.{found_on}
+use Rattle.vb_parse_decl.specs.{Declarators.IsBound, DeclaredReading.{IsPartAt, IsModifier, anything, ends_identifier, begins_array}}
+use Rattle.vb_parse_decl.proofs.{DeclaredNames.{array_at, no_array_end, no_modifier, other_modifier, bound_modifier}, DeclaredFinds.found_on}
 use Rattle.vb_parse_decl.proofs.declarator.modifier_at.Goals as goal
 
 pub returns-then-ends_identifier-2 : goal.returns-then-ends_identifier-2

@@ -1,7 +1,6 @@
 use Rattle.std.proofs.Common.{◌∙◌, sym, ap}
 use Rattle.vb_parse_decl.specs.DeclaredReading.{is_over}
-use Rattle.vb_parse_decl.proofs.DeclaredParts.{no_expression_at, expression_at}
-use Rattle.vb_parse_decl.proofs.DeclaredValues.{over_ends}
+use Rattle.vb_parse_decl.proofs.{DeclaredParts.{no_expression_at, expression_at}, DeclaredValues.over_ends}
 use Rattle.vb_parse_decl.proofs.declarator.over_expression.Goals as goal
 
 pub returns-else-is_over : goal.returns-else-is_over

@@ -2,8 +2,7 @@ use Rattle.std.proofs.Common.{rules, ◌≡◌, ◌+◌, true, false, Err, arith
 use Rattle.std.proofs.lemmas.Bool.{both_ways}
 use Rattle.vb_parse_expr.specs.Expressions.{SpellsInitializer}
 use Rattle.vb_parse_decl.specs.DeclaredReading.{IsPartAt, IsTyped, is_over, begins_equal}
-use Rattle.vb_parse_decl.proofs.DeclaredValues.{value_at, no_typed_at, other_typed}
-use Rattle.vb_parse_decl.proofs.DeclaredFinds.{found_on}
+use Rattle.vb_parse_decl.proofs.{DeclaredValues.{value_at, no_typed_at, other_typed}, DeclaredFinds.found_on}
 use Rattle.vb_parse_decl.proofs.declarator.typed.Goals as goal
 
 pub returns-in_err-initial-in-Ok : goal.returns-in_err-initial-in-Ok

@@ -1,5 +1,4 @@
-use Rattle.vb_parse_decl.proofs.DeclaredDeclarators.{Readings}
-use Rattle.vb_parse_decl.proofs.LineSame.{line_same}
+use Rattle.vb_parse_decl.proofs.{DeclaredDeclarators.Readings, LineSame.line_same}
 use Rattle.vb_parse_decl.proofs.line.one_declaration.Goals as goal
 
 pub returns : goal.returns

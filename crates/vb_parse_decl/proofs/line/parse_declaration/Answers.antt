@@ -1,10 +1,7 @@
 use Rattle.std.proofs.Common.{rules, ◌≡◌, ◌-◌, ◌+◌, ◌≤◌, false, None, length, drop, Err, sym, ◌∙◌, ap, arith}
 use Rattle.vb_parse_expr.specs.TypeReading.{most_tokens}
-use Rattle.vb_parse_decl.specs.DeclarationLines.{IsDeclarationLine}
-use Rattle.vb_parse_decl.specs.LineReading.{IsAfterModifiers, begins_constants}
-use Rattle.vb_parse_decl.specs.ModifierReading.{read_modifiers}
-use Rattle.vb_parse_decl.proofs.LineTells.{shorter, within, constants_within, variables_within, constants_line, no_constants, variables_line, no_variables, header_line, no_header}
-use Rattle.vb_parse_decl.proofs.Refusals.{passed_on}
+use Rattle.vb_parse_decl.specs.{DeclarationLines.IsDeclarationLine, LineReading.{IsAfterModifiers, begins_constants}, ModifierReading.read_modifiers}
+use Rattle.vb_parse_decl.proofs.{LineTells.{shorter, within, constants_within, variables_within, constants_line, no_constants, variables_line, no_variables, header_line, no_header}, Refusals.passed_on}
 use Rattle.vb_parse_decl.proofs.line.parse_declaration.Goals as goal
 
 pub overflow_sub-at : goal.overflow_sub-at

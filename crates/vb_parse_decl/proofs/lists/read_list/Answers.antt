@@ -2,8 +2,7 @@ use Rattle.std.proofs.Common.{rules, ◌≡◌, ◌+◌, ◌-◌, ◌++◌, ◌�
 use Rattle.std.specs.Option.{option_map}
 use Rattle.vb_parse_expr.specs.Reading.{after_comma}
 use Rattle.vb_parse_decl.specs.DeclarationReading.{listed, read_list}
-use Rattle.vb_parse_decl.proofs.ListTurns.{turn_fails, turn_ends, turn_goes, no_turn}
-use Rattle.vb_parse_decl.proofs.Givings.{failed}
+use Rattle.vb_parse_decl.proofs.{ListTurns.{turn_fails, turn_ends, turn_goes, no_turn}, Givings.failed}
 use Rattle.vb_parse_decl.proofs.lists.read_list.Goals as goal
 
 pub returns-in_err-one : goal.returns-in_err-one

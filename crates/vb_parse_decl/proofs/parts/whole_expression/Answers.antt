@@ -1,6 +1,5 @@
 use Rattle.std.proofs.Common.{arith}
-use Rattle.vb_parse_decl.proofs.Wholes.{expression_front}
-use Rattle.vb_parse_decl.proofs.Refusals.{no_expression}
+use Rattle.vb_parse_decl.proofs.{Wholes.expression_front, Refusals.no_expression}
 use Rattle.vb_parse_decl.proofs.parts.whole_expression.Goals as goal
 
 pub returns-else-behind-len : goal.returns-else-behind-len

@@ -1,6 +1,5 @@
 use Rattle.std.proofs.Common.{arith}
-use Rattle.vb_parse_decl.proofs.Wholes.{initializer_front}
-use Rattle.vb_parse_decl.proofs.Refusals.{no_initializer}
+use Rattle.vb_parse_decl.proofs.{Wholes.initializer_front, Refusals.no_initializer}
 use Rattle.vb_parse_decl.proofs.parts.whole_initializer.Goals as goal
 
 pub returns-else-end-len : goal.returns-else-end-len

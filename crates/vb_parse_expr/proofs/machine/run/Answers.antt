@@ -1,11 +1,8 @@
 use Rattle.std.proofs.Common.{ℕ, rules, arith, [], ◌-◌, ◌+◌, ◌≤◌, ◌∙◌, ap, sym}
 use Rattle.std.proofs.lemmas.Grind.{common_steps}
-use Rattle.vb_parse_expr.specs.TypeReading.{most_turns}
-use Rattle.vb_parse_expr.specs.MachineReading.{run, step}
+use Rattle.vb_parse_expr.specs.{TypeReading.most_turns, MachineReading.{run, step}}
 use Rattle.vb_parse_expr.specs.declared.machine.State.TheVariants as at
-use Rattle.vb_parse_expr.proofs.Turns.{one_more, no_more}
-use Rattle.vb_parse_expr.proofs.TypeRuns.{fails_on}
-use Rattle.vb_parse_expr.proofs.Runs.{turn_on, turn_done, turn_fails}
+use Rattle.vb_parse_expr.proofs.{Turns.{one_more, no_more}, TypeRuns.fails_on, Runs.{turn_on, turn_done, turn_fails}}
 use Rattle.vb_parse_expr.proofs.machine.run.Goals as goal
 
 pub returns-in_err-next : goal.returns-in_err-next

@@ -1,8 +1,6 @@
 use Rattle.std.proofs.Common.{ℕ, ◌≡◌, ◌-◌, ◌+◌, ◌∙◌, ap, subst, Ok, Some}
-use Rattle.vb_parse_expr.specs.TypeReading.{popped}
-use Rattle.vb_parse_expr.specs.MachineReading.{settled, settled_at, Settles}
-use Rattle.vb_parse_expr.proofs.Lists.{popped_last}
-use Rattle.vb_parse_expr.proofs.Turns.{one_more}
+use Rattle.vb_parse_expr.specs.{TypeReading.popped, MachineReading.{settled, settled_at, Settles}}
+use Rattle.vb_parse_expr.proofs.{Lists.popped_last, Turns.one_more}
 use Rattle.vb_parse_expr.proofs.operators.settled.Goals as goal
 
 pub loop-turn-preserved : goal.loop-turn-preserved

@@ -1,9 +1,7 @@
 use Rattle.std.proofs.Common.{[], subst}
 use Rattle.vb_parse_expr.specs.declared.pending.Goal.TheVariants as for
 use Rattle.vb_parse_expr.specs.declared.machine.State.TheVariants as at
-use Rattle.vb_parse_expr.specs.Fronts.{IsInitializerFront}
-use Rattle.vb_parse_expr.specs.TypeReading.{Gives, most_turns}
-use Rattle.vb_parse_expr.specs.MachineReading.{run}
+use Rattle.vb_parse_expr.specs.{Fronts.IsInitializerFront, TypeReading.{Gives, most_turns}, MachineReading.run}
 use Rattle.vb_parse_expr.proofs.Wiring.{answers, rest_within, reads_initializer}
 use Rattle.vb_parse_expr.proofs.parse.parse_initializer.Goals as goal
 

@@ -1,10 +1,7 @@
 use Rattle.std.proofs.Common.{[], subst}
 use Rattle.vb_parse_expr.specs.declared.pending.Goal.TheVariants as for
 use Rattle.vb_parse_expr.specs.declared.machine.State.TheVariants as at
-use Rattle.vb_parse_expr.specs.Fronts.{IsPrimaryFront}
-use Rattle.vb_parse_expr.specs.TypeReading.{Gives, most_turns}
-use Rattle.vb_parse_expr.specs.MachineReading.{run}
-use Rattle.vb_parse_expr.specs.Placing.{expression_of}
+use Rattle.vb_parse_expr.specs.{Fronts.IsPrimaryFront, TypeReading.{Gives, most_turns}, MachineReading.run, Placing.expression_of}
 use Rattle.vb_parse_expr.proofs.Wiring.{answers, rest_within, reads_primary}
 use Rattle.vb_parse_expr.proofs.parse.parse_primary.Goals as goal
 

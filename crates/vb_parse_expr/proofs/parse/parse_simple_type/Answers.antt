@@ -1,6 +1,5 @@
 use Rattle.std.proofs.Common.{subst}
-use Rattle.vb_parse_expr.specs.Types.{IsSimpleTypeFront}
-use Rattle.vb_parse_expr.specs.TypeReading.{Gives, read_simple_type}
+use Rattle.vb_parse_expr.specs.{Types.IsSimpleTypeFront, TypeReading.{Gives, read_simple_type}}
 use Rattle.vb_parse_expr.proofs.Wiring.{answers, rest_within, reads_simple_type}
 use Rattle.vb_parse_expr.proofs.parse.parse_simple_type.Goals as goal
 

@@ -1,6 +1,5 @@
 use Rattle.std.proofs.Common.{subst}
-use Rattle.vb_parse_expr.specs.Types.{IsTypeFront}
-use Rattle.vb_parse_expr.specs.TypeReading.{Gives, read_type}
+use Rattle.vb_parse_expr.specs.{Types.IsTypeFront, TypeReading.{Gives, read_type}}
 use Rattle.vb_parse_expr.proofs.Wiring.{answers, rest_within, reads_type}
 use Rattle.vb_parse_expr.proofs.parse.parse_type.Goals as goal
 

@@ -2,8 +2,7 @@ use Rattle.std.proofs.Common.{rules, arith, ◌-◌, ◌+◌, ◌≤◌, ◌∙�
 use Rattle.std.proofs.lemmas.Grind.{common_steps}
 use Rattle.vb_parse_expr.specs.TypeReading.{run_types, type_step, most_turns}
 use Rattle.vb_parse_expr.specs.declared.types.TypeState.TheVariants as at
-use Rattle.vb_parse_expr.proofs.Turns.{one_more, no_more}
-use Rattle.vb_parse_expr.proofs.TypeRuns.{turn_on, turn_done, turn_fails, fails_on}
+use Rattle.vb_parse_expr.proofs.{Turns.{one_more, no_more}, TypeRuns.{turn_on, turn_done, turn_fails, fails_on}}
 use Rattle.vb_parse_expr.proofs.types.run_types.Goals as goal
 
 pub returns-in_err-next : goal.returns-in_err-next

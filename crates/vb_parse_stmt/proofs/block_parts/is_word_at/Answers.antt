@@ -1,6 +1,5 @@
 use Rattle.std.proofs.Common.{rules, ◌≡◌, Some, slice_get, true, sym, ap, ◌∙◌}
-use Rattle.vb_syntax.specs.declared.keyword.Keyword.{Keyword}
-use Rattle.vb_syntax.specs.contracts.keyword.Keyword.{the_type}
+use Rattle.vb_syntax.specs.{declared.keyword.Keyword.Keyword, contracts.keyword.Keyword.the_type}
 use denote.Enum.Bare.{same_true, true_same}
 use Rattle.vb_parse_decl.specs.Parts.{reserved}
 use Rattle.vb_parse_stmt.proofs.block_parts.is_word_at.Goals as goal

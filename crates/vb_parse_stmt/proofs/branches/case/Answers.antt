@@ -2,11 +2,9 @@ use Rattle.std.proofs.Common.{rules, ◌≡◌, Err, refl}
 use Rattle.vb_syntax.specs.declared.keyword.Keyword.TheVariants as word
 use Rattle.vb_parse_stmt.specs.declared.front.Front.TheVariants as front
 use Rattle.vb_parse_decl.specs.Parts.{AreListed}
-use Rattle.vb_parse_stmt.specs.Statements.{IsCaseItem}
-use Rattle.vb_parse_stmt.specs.Reading.{IsItemFrom}
+use Rattle.vb_parse_stmt.specs.{Statements.IsCaseItem, Reading.IsItemFrom}
 use Rattle.vb_parse_decl.proofs.Refusals.{passed_on}
-use Rattle.vb_parse_stmt.proofs.SimpleFirsts.{starts}
-use Rattle.vb_parse_stmt.proofs.CaseSame.{no_case, case_else_here, case_else_last}
+use Rattle.vb_parse_stmt.proofs.{SimpleFirsts.starts, CaseSame.{no_case, case_else_here, case_else_last}}
 use Rattle.vb_parse_stmt.proofs.branches.case.Goals as goal
 
 pub returns-then-is_last_word : goal.returns-then-is_last_word

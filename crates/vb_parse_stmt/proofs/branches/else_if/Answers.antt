@@ -1,7 +1,6 @@
 use Rattle.std.proofs.Common.{rules, ◌≡◌, Err}
 use Rattle.vb_parse_stmt.specs.declared.front.Front.TheVariants as front
-use Rattle.vb_parse_stmt.specs.Statements.{IsTest}
-use Rattle.vb_parse_stmt.specs.Reading.{IsItemFrom}
+use Rattle.vb_parse_stmt.specs.{Statements.IsTest, Reading.IsItemFrom}
 use Rattle.vb_parse_decl.proofs.Refusals.{passed_on}
 use Rattle.vb_parse_stmt.proofs.BlockFronts.{no_else_if}
 use Rattle.vb_parse_stmt.proofs.branches.else_if.Goals as goal

@@ -4,9 +4,8 @@ use Rattle.vb_parse_stmt.specs.declared.front.Front.TheVariants as front
 use Rattle.vb_parse_decl.specs.Parts.{IsExpression}
 use Rattle.vb_parse_stmt.specs.Reading.{IsItemFrom}
 use Rattle.vb_parse_decl.proofs.Refusals.{passed_on}
-use Rattle.vb_parse_stmt.proofs.BranchRefusals.{no_select_case, no_select}
+use Rattle.vb_parse_stmt.proofs.{BranchRefusals.{no_select_case, no_select}, branches.select.Goals.{then-is_word_at, else-is_word_at}}
 use Rattle.vb_parse_stmt.proofs.branches.select.Goals as goal
-use Rattle.vb_parse_stmt.proofs.branches.select.Goals.{then-is_word_at, else-is_word_at}
 
 pub returns-in_err-value : goal.returns-in_err-value
 returns-in_err-value c =

@@ -1,8 +1,6 @@
 use Rattle.std.proofs.Common.{rules, ◌≡◌, ℕ, ◌+◌, ◌-◌, drop, Some, Err, arith, ◌∙◌, sym, ap, subst}
-use Rattle.vb_parse_decl.specs.Parts.{IsExpression}
-use Rattle.vb_parse_stmt.specs.Statements.{IsCaseItem}
-use Rattle.vb_parse_decl.specs.DeclaredReading.{IsPartAt, is_over}
-use Rattle.vb_parse_stmt.specs.CaseReading.{relation_front, relation_size}
+use Rattle.vb_parse_decl.specs.{Parts.IsExpression, DeclaredReading.{IsPartAt, is_over}}
+use Rattle.vb_parse_stmt.specs.{Statements.IsCaseItem, CaseReading.{relation_front, relation_size}}
 use Rattle.vb_parse_stmt.proofs.CaseItems.{relation_found, no_compared}
 use Rattle.vb_parse_decl.proofs.DeclaredFinds.{found_on}
 use Rattle.vb_parse_stmt.proofs.cases.case_item.Goals as goal

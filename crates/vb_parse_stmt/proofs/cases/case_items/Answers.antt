@@ -1,15 +1,9 @@
 use Rattle.std.proofs.Common.{rules, ◌≡◌, ◌+◌, ◌-◌, List, [], ◌∷◌, ◌++◌, length, Err, refl, arith, ◌∙◌, sym, subst, drop, length-drop}
 use Rattle.vb_syntax.specs.declared.statement.CaseItem.{CaseItem}
-use Rattle.vb_parse_decl.specs.Parts.{AreListed}
+use Rattle.vb_parse_decl.specs.{Parts.AreListed, DeclaredReading.{IsPartAt, is_end, is_over}}
 use Rattle.vb_parse_stmt.specs.Statements.{IsCaseItem}
-use Rattle.vb_parse_decl.specs.DeclaredReading.{IsPartAt, is_end, is_over}
-use Rattle.vb_parse_decl.proofs.DeclaredParts.{whole_part, part_whole}
-use Rattle.vb_parse_decl.proofs.DeclaredLists.{Leads, leads_on, leads_to, no_first}
-use Rattle.vb_parse_decl.proofs.DeclaredNames.{declarator_ends, comma_over}
-use Rattle.vb_parse_decl.proofs.DeclaredDeclarators.{end_at}
-use Rattle.vb_parse_decl.proofs.DeclaredFinds.{told_on}
-use Rattle.vb_parse_stmt.proofs.CaseItems.{one_case_item}
-use Rattle.vb_parse_stmt.proofs.CaseSame.{case_items_long}
+use Rattle.vb_parse_decl.proofs.{DeclaredParts.{whole_part, part_whole}, DeclaredLists.{Leads, leads_on, leads_to, no_first}, DeclaredNames.{declarator_ends, comma_over}, DeclaredDeclarators.end_at, DeclaredFinds.told_on}
+use Rattle.vb_parse_stmt.proofs.{CaseItems.one_case_item, CaseSame.case_items_long}
 use Rattle.vb_parse_stmt.proofs.cases.case_items.Goals as goal
 
 pub returns-in_err-one : goal.returns-in_err-one

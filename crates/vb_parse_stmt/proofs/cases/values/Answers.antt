@@ -1,9 +1,7 @@
 use Rattle.std.proofs.Common.{rules, ◌≡◌, ◌+◌, true, false, Err, arith, ◌∙◌, sym, ap, drop}
 use Rattle.std.proofs.lemmas.Bool.{both_ways}
-use Rattle.vb_parse_decl.specs.Parts.{IsExpression}
-use Rattle.vb_parse_stmt.specs.Statements.{IsCaseItem}
-use Rattle.vb_parse_decl.specs.DeclaredReading.{IsPartAt, is_over}
-use Rattle.vb_parse_stmt.specs.CaseReading.{is_to}
+use Rattle.vb_parse_decl.specs.{Parts.IsExpression, DeclaredReading.{IsPartAt, is_over}}
+use Rattle.vb_parse_stmt.specs.{Statements.IsCaseItem, CaseReading.is_to}
 use Rattle.vb_parse_stmt.proofs.CaseItems.{value_found, range_found, no_value, other_value}
 use Rattle.vb_parse_decl.proofs.DeclaredFinds.{found_on}
 use Rattle.vb_parse_stmt.proofs.cases.values.Goals as goal

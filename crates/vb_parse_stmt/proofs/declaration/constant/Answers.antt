@@ -1,7 +1,6 @@
 use Rattle.std.proofs.Common.{rules, ◌≡◌, Err}
 use Rattle.vb_parse_stmt.specs.declared.front.Front.TheVariants as front
-use Rattle.vb_parse_decl.specs.Parts.{AreListed}
-use Rattle.vb_parse_decl.specs.Declarators.{IsDeclarator}
+use Rattle.vb_parse_decl.specs.{Parts.AreListed, Declarators.IsDeclarator}
 use Rattle.vb_parse_stmt.specs.Reading.{IsItemFrom}
 use Rattle.vb_parse_decl.proofs.Refusals.{passed_on}
 use Rattle.vb_parse_stmt.proofs.DeclaredItems.{no_constant}

@@ -1,8 +1,7 @@
 use Rattle.std.proofs.Common.{rules, ◌≡◌, Err, arith}
 use Rattle.vb_parse_stmt.specs.declared.front.Front.TheVariants as front
-use Rattle.vb_parse_decl.specs.Declarators.{IsBound}
+use Rattle.vb_parse_decl.specs.{Declarators.IsBound, DeclaredReading.{IsPartAt, anything}}
 use Rattle.vb_parse_stmt.specs.Reading.{IsItemFrom}
-use Rattle.vb_parse_decl.specs.DeclaredReading.{IsPartAt, anything}
 use Rattle.vb_parse_decl.proofs.DeclaredFinds.{told_on}
 use Rattle.vb_parse_stmt.proofs.DeclaredArrays.{no_redim, other_redim}
 use Rattle.vb_parse_stmt.proofs.declaration.redim.Goals as goal

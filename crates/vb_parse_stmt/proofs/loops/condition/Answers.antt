@@ -6,8 +6,7 @@ use Rattle.vb_syntax.specs.declared.tokens.Token.TheVariants as token
 use Rattle.vb_parse_decl.specs.Parts.{reserved, IsExpression, IsOptional}
 use Rattle.vb_parse_stmt.specs.Statements.{IsCondition}
 use Rattle.vb_parse_decl.proofs.Refusals.{passed_on}
-use Rattle.vb_parse_stmt.proofs.BlockParted.{dropped_at}
-use Rattle.vb_parse_stmt.proofs.LoopRefusals.{no_while_condition, no_until_condition}
+use Rattle.vb_parse_stmt.proofs.{BlockParted.dropped_at, LoopRefusals.{no_while_condition, no_until_condition}}
 use Rattle.vb_parse_stmt.proofs.loops.condition.Goals as goal
 
 pub returns-in_err-test : goal.returns-in_err-test

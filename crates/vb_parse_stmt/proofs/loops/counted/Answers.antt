@@ -1,6 +1,5 @@
 use Rattle.std.proofs.Common.{rules, ◌≡◌, Err}
-use Rattle.vb_parse_stmt.specs.Statements.{IsRange}
-use Rattle.vb_parse_stmt.specs.BlockParts.{StandsFrom, IsVariableFront, IsCounted}
+use Rattle.vb_parse_stmt.specs.{Statements.IsRange, BlockParts.{StandsFrom, IsVariableFront, IsCounted}}
 use Rattle.vb_parse_decl.proofs.Refusals.{passed_on}
 use Rattle.vb_parse_stmt.proofs.LoopRefusals.{no_counted, other_counted, counted_found}
 use Rattle.vb_parse_stmt.proofs.loops.counted.Goals as goal

@@ -1,8 +1,7 @@
 use Rattle.std.proofs.Common.{rules, ◌≡◌, Err}
 use Rattle.vb_parse_stmt.specs.declared.front.Front.TheVariants as front
 use Rattle.vb_parse_decl.specs.Parts.{IsOptional}
-use Rattle.vb_parse_stmt.specs.Statements.{IsCondition}
-use Rattle.vb_parse_stmt.specs.Reading.{IsItemFrom}
+use Rattle.vb_parse_stmt.specs.{Statements.IsCondition, Reading.IsItemFrom}
 use Rattle.vb_parse_decl.proofs.Refusals.{passed_on}
 use Rattle.vb_parse_stmt.proofs.BlockFronts.{no_do}
 use Rattle.vb_parse_stmt.proofs.loops.do_front.Goals as goal

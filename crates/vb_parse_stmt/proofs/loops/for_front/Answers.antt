@@ -1,7 +1,6 @@
 use Rattle.std.proofs.Common.{rules, ◌≡◌, Err}
 use Rattle.vb_parse_stmt.specs.declared.front.Front.TheVariants as front
-use Rattle.vb_parse_stmt.specs.Reading.{IsItemFrom}
-use Rattle.vb_parse_stmt.specs.BlockParts.{IsEach, IsCounted}
+use Rattle.vb_parse_stmt.specs.{Reading.IsItemFrom, BlockParts.{IsEach, IsCounted}}
 use Rattle.vb_parse_decl.proofs.Refusals.{passed_on}
 use Rattle.vb_parse_stmt.proofs.LoopRefusals.{no_for_each, no_for}
 use Rattle.vb_parse_stmt.proofs.loops.for_front.Goals as goal

@@ -1,8 +1,7 @@
 use Rattle.std.proofs.Common.{rules, ◌≡◌, Err, arith}
 use Rattle.vb_parse_expr.specs.Fronts.{IsFront}
 use Rattle.vb_parse_decl.specs.Parts.{IsExpression}
-use Rattle.vb_parse_stmt.specs.Statements.{IsLimit}
-use Rattle.vb_parse_stmt.specs.BlockParts.{StandsFrom}
+use Rattle.vb_parse_stmt.specs.{Statements.IsLimit, BlockParts.StandsFrom}
 use Rattle.vb_parse_decl.proofs.Refusals.{passed_on}
 use Rattle.vb_parse_stmt.proofs.LoopRefusals.{no_limit, other_limit, limit_found}
 use Rattle.vb_parse_stmt.proofs.loops.limit.Goals as goal

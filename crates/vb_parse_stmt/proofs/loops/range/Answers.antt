@@ -1,7 +1,6 @@
 use Rattle.std.proofs.Common.{rules, ◌≡◌, Err}
 use Rattle.vb_parse_expr.specs.Fronts.{IsFront}
-use Rattle.vb_parse_stmt.specs.Statements.{IsLimit, IsRange}
-use Rattle.vb_parse_stmt.specs.BlockParts.{StandsFrom}
+use Rattle.vb_parse_stmt.specs.{Statements.{IsLimit, IsRange}, BlockParts.StandsFrom}
 use Rattle.vb_parse_decl.proofs.Refusals.{passed_on}
 use Rattle.vb_parse_stmt.proofs.LoopRefusals.{no_range, other_range, range_found}
 use Rattle.vb_parse_stmt.proofs.loops.range.Goals as goal

@@ -1,8 +1,6 @@
 use Rattle.vb_parse_stmt.specs.declared.front.Front.TheVariants as front
-use Rattle.vb_parse_stmt.specs.Reading.{IsItemFrom}
-use Rattle.vb_parse_stmt.specs.SimpleLines.{IsPrimaryLine}
-use Rattle.vb_parse_stmt.proofs.SimpleRefusals.{told_so}
-use Rattle.vb_parse_stmt.proofs.SimpleFirsts.{is_other, other_is}
+use Rattle.vb_parse_stmt.specs.{Reading.IsItemFrom, SimpleLines.IsPrimaryLine}
+use Rattle.vb_parse_stmt.proofs.{SimpleRefusals.told_so, SimpleFirsts.{is_other, other_is}}
 use Rattle.vb_parse_stmt.proofs.simple.assignment_or_call.Goals as goal
 
 pub returns : goal.returns

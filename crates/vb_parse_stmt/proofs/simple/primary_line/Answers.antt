@@ -1,10 +1,8 @@
 use Rattle.std.proofs.Common.{rules, ◌≡◌, Err, sym, ap, ◌∙◌, arith}
 use Rattle.vb_syntax.specs.declared.tokens.Token.TheVariants as token
 use Rattle.vb_parse_decl.specs.Parts.{IsExpression, IsPrimary, equal}
-use Rattle.vb_parse_stmt.specs.Statements.{compound_sign}
-use Rattle.vb_parse_stmt.specs.SimpleLines.{IsPrimaryLine, compound_there}
-use Rattle.vb_parse_decl.proofs.Parted.{parted_at}
-use Rattle.vb_parse_decl.proofs.Refusals.{passed_on}
+use Rattle.vb_parse_stmt.specs.{Statements.compound_sign, SimpleLines.{IsPrimaryLine, compound_there}}
+use Rattle.vb_parse_decl.proofs.{Parted.parted_at, Refusals.passed_on}
 use Rattle.vb_parse_stmt.proofs.SimpleRefusals.{no_line, other_line, not_both, operator_sign, compound_read}
 use Rattle.vb_parse_stmt.proofs.simple.primary_line.Goals as goal
 

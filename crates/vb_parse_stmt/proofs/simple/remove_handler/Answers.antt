@@ -1,7 +1,6 @@
 use Rattle.std.proofs.Common.{rules, ◌≡◌, Err}
 use Rattle.vb_parse_stmt.specs.declared.front.Front.TheVariants as front
-use Rattle.vb_parse_stmt.specs.SimpleLines.{IsTwo}
-use Rattle.vb_parse_stmt.specs.Reading.{IsItemFrom}
+use Rattle.vb_parse_stmt.specs.{SimpleLines.IsTwo, Reading.IsItemFrom}
 use Rattle.vb_parse_decl.proofs.Refusals.{passed_on}
 use Rattle.vb_parse_stmt.proofs.SimpleForms.{no_remove}
 use Rattle.vb_parse_stmt.proofs.simple.remove_handler.Goals as goal

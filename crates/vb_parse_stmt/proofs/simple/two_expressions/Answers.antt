@@ -3,11 +3,9 @@ use Rattle.std.proofs.lemmas.Option.{slice_get_within}
 use Rattle.vb_parse_expr.specs.Words.{comma}
 use Rattle.vb_parse_decl.specs.Parts.{IsExpression}
 use Rattle.vb_parse_stmt.specs.SimpleLines.{IsTwo}
-use Rattle.vb_parse_decl.proofs.Parted.{parted_at}
-use Rattle.vb_parse_decl.proofs.Refusals.{passed_on}
-use Rattle.vb_parse_stmt.proofs.SimpleRefusals.{no_two, no_front_two}
+use Rattle.vb_parse_decl.proofs.{Parted.parted_at, Refusals.passed_on}
+use Rattle.vb_parse_stmt.proofs.{SimpleRefusals.{no_two, no_front_two}, simple.two_expressions.Goals.{else-behind-len-via-then-behind-len+else-is_comma_at, else-behind-len-via-else-behind-len}}
 use Rattle.vb_parse_stmt.proofs.simple.two_expressions.Goals as goal
-use Rattle.vb_parse_stmt.proofs.simple.two_expressions.Goals.{else-behind-len-via-then-behind-len+else-is_comma_at, else-behind-len-via-else-behind-len}
 
 pub returns-in_err-right-in-Ok : goal.returns-in_err-right-in-Ok
 returns-in_err-right-in-Ok c =

@@ -1,8 +1,6 @@
 use Rattle.std.proofs.Common.{subst, Err}
-use Rattle.vb_parse_expr.specs.declared.error.ParseErr.{ParseErr}
-use Rattle.vb_parse_expr.specs.declared.error.ParseErr.TheVariants.{Refused}
-use Rattle.vb_parse_decl.specs.Answers.{Tells}
-use Rattle.vb_parse_decl.specs.DeclarationLines.{IsDeclarationLine}
+use Rattle.vb_parse_expr.specs.declared.error.ParseErr.{ParseErr, TheVariants.Refused}
+use Rattle.vb_parse_decl.specs.{Answers.Tells, DeclarationLines.IsDeclarationLine}
 use Rattle.vb_parse_stmt.proofs.Declares.{other_tells}
 use Rattle.vb_parse_stmt.proofs.stmt.parse_stmt.Goals as goal
 

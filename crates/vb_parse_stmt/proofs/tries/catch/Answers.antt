@@ -1,7 +1,6 @@
 use Rattle.std.proofs.Common.{rules, ◌≡◌, Err}
 use Rattle.vb_parse_stmt.specs.declared.front.Front.TheVariants as front
-use Rattle.vb_parse_stmt.specs.Reading.{IsItemFrom}
-use Rattle.vb_parse_stmt.specs.BlockParts.{IsCaughtPair}
+use Rattle.vb_parse_stmt.specs.{Reading.IsItemFrom, BlockParts.IsCaughtPair}
 use Rattle.vb_parse_decl.proofs.Refusals.{passed_on}
 use Rattle.vb_parse_stmt.proofs.GuardRefusals.{no_catch}
 use Rattle.vb_parse_stmt.proofs.tries.catch.Goals as goal

@@ -3,8 +3,7 @@ use Rattle.vb_syntax.specs.declared.keyword.Keyword.TheVariants as word
 use Rattle.vb_parse_decl.specs.Parts.{reserved, IsExpression}
 use Rattle.vb_parse_stmt.specs.BlockParts.{IsCaughtPair}
 use Rattle.vb_parse_decl.proofs.Refusals.{passed_on}
-use Rattle.vb_parse_stmt.proofs.BlockParted.{dropped_at}
-use Rattle.vb_parse_stmt.proofs.GuardRefusals.{no_caught_when}
+use Rattle.vb_parse_stmt.proofs.{BlockParted.dropped_at, GuardRefusals.no_caught_when}
 use Rattle.vb_parse_stmt.proofs.tries.caught.Goals as goal
 
 pub returns-in_err-filter : goal.returns-in_err-filter

@@ -1,8 +1,7 @@
 use Rattle.std.proofs.Common.{rules, ◌≡◌, Err}
 use Rattle.vb_parse_decl.proofs.Refusals.{passed_on}
 use Rattle.vb_parse_decl.specs.Declarators.{IsNew}
-use Rattle.vb_parse_stmt.specs.Statements.{IsResource}
-use Rattle.vb_parse_stmt.specs.BlockParts.{IsTypedValue}
+use Rattle.vb_parse_stmt.specs.{Statements.IsResource, BlockParts.IsTypedValue}
 use Rattle.vb_parse_stmt.proofs.GuardResources.{no_new_resource, no_typed_resource, named_as}
 use Rattle.vb_parse_stmt.proofs.tries.local_resource.Goals as goal
 

@@ -1,8 +1,7 @@
 use Rattle.std.proofs.Common.{rules, ◌≡◌, Err}
 use Rattle.vb_parse_decl.proofs.Refusals.{passed_on}
-use Rattle.vb_parse_stmt.specs.Statements.{IsResource}
+use Rattle.vb_parse_stmt.specs.{Statements.IsResource, Reading.IsItemFrom}
 use Rattle.vb_parse_stmt.specs.declared.front.Front.TheVariants as front
-use Rattle.vb_parse_stmt.specs.Reading.{IsItemFrom}
 use Rattle.vb_parse_stmt.proofs.GuardResources.{no_using}
 use Rattle.vb_parse_stmt.proofs.tries.using.Goals as goal
 

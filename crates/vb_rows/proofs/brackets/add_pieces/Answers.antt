@@ -1,10 +1,8 @@
 use Rattle.std.proofs.Common.{◌≡◌, ◌++◌, false, take, sym, ap, ◌∙◌, subst}
 use Rattle.vb_syntax.specs.declared.item.Joint.TheVariants as joint
 use Rattle.vb_syntax.specs.Items.{is_end}
-use Rattle.vb_rows.specs.Cutting.{FirstPiece, before_behind, is_left_out}
-use Rattle.vb_rows.specs.Files.{piece_brackets}
-use Rattle.vb_rows.proofs.PieceRows.{pieces_from}
-use Rattle.vb_rows.proofs.PieceBrackets.{added, piece_counted, left_from}
+use Rattle.vb_rows.specs.{Cutting.{FirstPiece, before_behind, is_left_out}, Files.piece_brackets}
+use Rattle.vb_rows.proofs.{PieceRows.pieces_from, PieceBrackets.{added, piece_counted, left_from}}
 use Rattle.vb_rows.proofs.brackets.add_pieces.Goals as goal
 
 pub loop-rest-preserved : goal.loop-rest-preserved

@@ -1,8 +1,6 @@
 use Rattle.std.proofs.Common.{[], ◌∷◌, ◌++◌, false, length, take, sym, ap, ◌∙◌, subst, arith}
 use Rattle.std.proofs.lemmas.List.{take_more, take_all}
-use Rattle.vb_rows.proofs.Counts.{brackets_count}
-use Rattle.vb_rows.proofs.OneList.{one_file}
-use Rattle.vb_rows.proofs.FilesRead.{AreLinesRead, line_more}
+use Rattle.vb_rows.proofs.{Counts.brackets_count, OneList.one_file, FilesRead.{AreLinesRead, line_more}}
 use Rattle.vb_rows.proofs.files.read_rows.Goals as goal
 
 pub loop-line-preserved : goal.loop-line-preserved

@@ -2,11 +2,9 @@ use Rattle.std.proofs.Common.{◌≡◌, ◌+◌, length, drop, true, false, sym
 use Rattle.std.specs.List.{slice_range}
 use Rattle.vb_syntax.specs.declared.item.Joint.TheVariants as joint
 use Rattle.vb_syntax.specs.Items.{is_end}
-use Rattle.vb_rows.specs.Cutting.{is_left_out}
-use Rattle.vb_rows.specs.Reading.{IsRowAdded}
-use Rattle.vb_rows.proofs.PieceRows.{IsReadTo, AreReadTo, pieces_from, left_behind, first_here, range_of_piece, read_left_out, read_kept, next_place, next_within, all_added}
+use Rattle.vb_rows.specs.{Cutting.is_left_out, Reading.IsRowAdded}
+use Rattle.vb_rows.proofs.{PieceRows.{IsReadTo, AreReadTo, pieces_from, left_behind, first_here, range_of_piece, read_left_out, read_kept, next_place, next_within, all_added}, lines.add_pieces.Goals.{then-not-is_left_out+in_ok-add_row, else-not-is_left_out}}
 use Rattle.vb_rows.proofs.lines.add_pieces.Goals as goal
-use Rattle.vb_rows.proofs.lines.add_pieces.Goals.{then-not-is_left_out+in_ok-add_row, else-not-is_left_out}
 
 pub returns-then-is_end : goal.returns-then-is_end
 returns-then-is_end c =

@@ -1,7 +1,6 @@
 use Rattle.std.proofs.Common.{◌≡◌, false, sym, ◌∙◌, subst}
 use Rattle.vb_rows.specs.Pieces.{is_colon, parts_at_else, parts_at_then}
-use Rattle.vb_rows.proofs.Fronts.{behind_first, first_is}
-use Rattle.vb_rows.proofs.Cuts.{IsCutTo, begin_cut, next_cut}
+use Rattle.vb_rows.proofs.{Fronts.{behind_first, first_is}, Cuts.{IsCutTo, begin_cut, next_cut}}
 use Rattle.vb_rows.proofs.pieces.first_piece.Goals as goal
 
 pub loop-rest-init : goal.loop-rest-init

@@ -1,6 +1,5 @@
 use Rattle.std.proofs.Common.{◌≡◌, ◌∙◌, sym, ap, subst, reverse}
-use Rattle.vb_ends.specs.Stack.{left, state_of}
-use Rattle.vb_ends.specs.Enders.{BreaksBackwards, IsLeast}
+use Rattle.vb_ends.specs.{Stack.{left, state_of}, Enders.{BreaksBackwards, IsLeast}}
 use Rattle.vb_ends.proofs.Machine.{left_next, left_none, state_last}
 use Rattle.vb_ends.proofs.blocks.Blocks.finish.Goals as goal
 

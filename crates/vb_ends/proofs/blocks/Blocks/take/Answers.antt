@@ -1,6 +1,5 @@
 use Rattle.std.proofs.Common.{◌≡◌, List, ◌∷◌, subst, sym}
-use Rattle.vb_ends.specs.declared.role.Mark.{Mark}
-use Rattle.vb_ends.specs.Stack.{Tracks, IsState, state_of, stepped}
+use Rattle.vb_ends.specs.{declared.role.Mark.Mark, Stack.{Tracks, IsState, state_of, stepped}}
 use Rattle.vb_ends.proofs.Machine.{on_ok, state_next}
 use Rattle.vb_ends.proofs.blocks.Blocks.take.Goals as goal
 

@@ -1,10 +1,7 @@
 use Rattle.std.proofs.Common.{◌≡◌, ℕ, Some, sym, ◌∙◌, subst}
 use Rattle.vb_diag.specs.declared.refusal.Refusal.{Refusal}
-use Rattle.vb_lexer.specs.Lines.{AreLines, grouped, IsNotAfter}
-use Rattle.vb_lexer.specs.Reader.{IsLeast}
-use Rattle.vb_lexer.specs.Progress.{FileBreaks}
-use Rattle.vb_lexer.proofs.Reading.{whole_lines}
-use Rattle.vb_lexer.proofs.Finishing.{least_file, none_least}
+use Rattle.vb_lexer.specs.{Lines.{AreLines, grouped, IsNotAfter}, Reader.IsLeast, Progress.FileBreaks}
+use Rattle.vb_lexer.proofs.{Reading.whole_lines, Finishing.{least_file, none_least}}
 use Rattle.vb_lexer.proofs.lines.Progress.finish.Goals as goal
 
 pub returns-in-Some : goal.returns-in-Some

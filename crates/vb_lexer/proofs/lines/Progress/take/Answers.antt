@@ -1,9 +1,7 @@
 use Rattle.std.proofs.Common.{◌≡◌, true, is_some, ◌++◌, ap, sym, ◌∙◌, subst, refl}
 use Rattle.std.specs.Prelude.{IfSome}
-use Rattle.vb_lexer.specs.Lines.{is_token, IsToken}
-use Rattle.vb_lexer.specs.Reader.{Reads, part}
-use Rattle.vb_lexer.proofs.Steps.{on_ok, here_token}
-use Rattle.vb_lexer.proofs.Unique.{token_stays}
+use Rattle.vb_lexer.specs.{Lines.{is_token, IsToken}, Reader.{Reads, part}}
+use Rattle.vb_lexer.proofs.{Steps.{on_ok, here_token}, Unique.token_stays}
 use Rattle.vb_lexer.proofs.lines.Progress.take.Goals as goal
 
 pub returns-in-Some-clause-reads : goal.returns-in-Some-clause-reads

@@ -1,6 +1,5 @@
 use Rattle.std.proofs.Common.{refl, ap, ◌∙◌}
-use Rattle.vb_lexer.specs.Lines.{item}
-use Rattle.vb_lexer.specs.Reader.{closed_least}
+use Rattle.vb_lexer.specs.{Lines.item, Reader.closed_least}
 use Rattle.vb_lexer.proofs.Reading.{reads_fault}
 use Rattle.vb_lexer.proofs.reader.Reader.add_fault.Goals as goal
 
