@@ -1,9 +1,11 @@
 -- How many blocks are open, and which rows are too deep.
-use Rattle.std.proofs.Common.{◌≡◌, ◌⊎◌, inl, inr, ℕ, ◌+◌, ◌<◌, ◌≤◌, List, [], ◌∷◌, reverse, length, take, drop, get_or, Option, refl, sym, ◌∙◌, ap, subst, arith}
+use Rattle.std.proofs.Common.{◌≡◌, ◌⊎◌, inl, inr, ℕ, ◌+◌, ◌<◌, ◌≤◌, List, [], ◌∷◌, reverse, length, take, drop, get_or, Option, Some, refl, sym, ◌∙◌, ap, subst, arith}
 use Rattle.std.proofs.lemmas.List.{length-reverse, reverse-append, take_more, drop_more}
 use Rattle.vb_syntax.specs.declared.item.Row.{Row}
-use Rattle.vb_ends.specs.{declared.{blocks.Blocks.Blocks, role.Mark.Mark}, Depth.{AreSoMany, IsDeep, IsTooDeep}, Enders.{Block, IsAmong, AreNested, IsLeast}, Reading.next_item, Roles.marks_of, Stack.{Tracks, lesser_of, kept}}
-use Rattle.vb_ends.proofs.{Machine.{least_same, least_one}, Nesting.below}
+use Rattle.vb_ends.specs.{declared.{blocks.Blocks.Blocks, role.Mark.Mark}, Depth.{AreSoMany, IsDeep, IsTooDeep}, Enders.{Block, IsAmong, AreNested}, Reading.next_item, Roles.marks_of, Stack.{Tracks, kept}}
+use Rattle.vb_diag.specs.Broken.{IsLeastLine, lesser_line}
+use Rattle.vb_diag.proofs.Least.{least_same, lines_ordered}
+use Rattle.vb_ends.proofs.{Machine.least_one, Nesting.below}
 
 -- HOW MANY
 
@@ -24,7 +26,7 @@ record AreThese (xs ys : List Block) : Type 0 where
   pub back : (b : Block) → IsAmong ys b → IsAmong xs b
 
 -- the innermost of one is the innermost of the other
-first_by : (x : Block) (xs : List Block) (y : Block) (ys : List Block) (n m : ℕ) → AreNested (x ∷ xs) n → AreNested (y ∷ ys) m → IsAmong (x ∷ xs) y → IsAmong (y ∷ ys) x → x ≡ y
+pub first_by : (x : Block) (xs : List Block) (y : Block) (ys : List Block) (n m : ℕ) → AreNested (x ∷ xs) n → AreNested (y ∷ ys) m → IsAmong (x ∷ xs) y → IsAmong (y ∷ ys) x → x ≡ y
 first_by x xs y ys n m nx ny h (inl e) = e
 first_by x xs y ys n m nx ny (inl e) (inr k) = sym e
 first_by x xs y ys n m nx ny (inr h) (inr k) =
@@ -59,20 +61,20 @@ so_many_same marks n m a b =
 
 -- ONE ROW MORE
 
-pub too_deep : (before : List Row) (r : Row) (bs : List ℕ) (b n : ℕ) (first : Option ℕ) → AreSoMany (marks_of r.item before) n → 100 < n + b → IsLeast (IsTooDeep before bs) first
-    → IsLeast (IsTooDeep (r ∷ before) (b ∷ bs)) (lesser_of first r.line)
+pub too_deep : (before : List Row) (r : Row) (bs : List ℕ) (b n : ℕ) (first : Option ℕ) → AreSoMany (marks_of r.item before) n → 100 < n + b → IsLeastLine (IsTooDeep before bs) first
+    → IsLeastLine (IsTooDeep (r ∷ before) (b ∷ bs)) (lesser_line first (Some r.line))
 too_deep before r bs b n first many past least =
-    least_same (λ l. IsTooDeep before bs l ⊎ (l ≡ r.line)) (IsTooDeep (r ∷ before) (b ∷ bs)) (lesser_of first r.line) (least_one (IsTooDeep before bs) first r.line least)
+    least_same lines_ordered (λ l. IsTooDeep before bs l ⊎ (l ≡ r.line)) (IsTooDeep (r ∷ before) (b ∷ bs)) (lesser_line first (Some r.line)) (least_one (IsTooDeep before bs) first r.line least)
     (λ l h. elim h [ inl k ↦ inr k | inr e ↦ inl (e, (n, many, past)) ])
     (λ l h. elim h [ inl k ↦ inr k.0 | inr k ↦ inl k ])
 
 flat : (before : List Row) (r : Row) (b n : ℕ) → AreSoMany (marks_of r.item before) n → n + b ≤ 100 → IsDeep before r b → ⊥
 flat before r b n many within (m, others, past) = let same = so_many_same (marks_of r.item before) n m many others in omega (arith, same, within, past)
 
-pub not_too_deep : (before : List Row) (r : Row) (bs : List ℕ) (b n : ℕ) (first : Option ℕ) → AreSoMany (marks_of r.item before) n → n + b ≤ 100 → IsLeast (IsTooDeep before bs) first
-    → IsLeast (IsTooDeep (r ∷ before) (b ∷ bs)) first
+pub not_too_deep : (before : List Row) (r : Row) (bs : List ℕ) (b n : ℕ) (first : Option ℕ) → AreSoMany (marks_of r.item before) n → n + b ≤ 100 → IsLeastLine (IsTooDeep before bs) first
+    → IsLeastLine (IsTooDeep (r ∷ before) (b ∷ bs)) first
 not_too_deep before r bs b n first many within least =
-    least_same (IsTooDeep before bs) (IsTooDeep (r ∷ before) (b ∷ bs)) first least (λ l h. inr h)
+    least_same lines_ordered (IsTooDeep before bs) (IsTooDeep (r ∷ before) (b ∷ bs)) first least (λ l h. inr h)
     (λ l h. elim h [ inl k ↦ absurd (flat before r b n many within k.1) | inr k ↦ k ])
 
 -- ONE PLACE FURTHER
@@ -85,18 +87,18 @@ item_here rows i r within at = ap next_item (drop_more rows i r within) ∙ ap (
 
 -- the least line so far, with that of a row
 abbrev pub IsNext : Option ℕ → ℕ → ℕ → Option ℕ → Type 0
-IsNext first line depth next = ((100 < depth) × (next ≡ lesser_of first line)) ⊎ ((depth ≤ 100) × (next ≡ first))
+IsNext first line depth next = ((100 < depth) × (next ≡ lesser_line first (Some line))) ⊎ ((depth ≤ 100) × (next ≡ first))
 
-least_by : (before : List Row) (r : Row) (bs : List ℕ) (b n : ℕ) (first next : Option ℕ) → AreSoMany (marks_of r.item before) n → IsNext first r.line (n + b) next → IsLeast (IsTooDeep before bs) first
-    → IsLeast (IsTooDeep (r ∷ before) (b ∷ bs)) next
-least_by before r bs b n first next many (inl (past, e)) least = subst (λ m. IsLeast (IsTooDeep (r ∷ before) (b ∷ bs)) m) (sym e) (too_deep before r bs b n first many past least)
-least_by before r bs b n first next many (inr (within, e)) least = subst (λ m. IsLeast (IsTooDeep (r ∷ before) (b ∷ bs)) m) (sym e) (not_too_deep before r bs b n first many within least)
+least_by : (before : List Row) (r : Row) (bs : List ℕ) (b n : ℕ) (first next : Option ℕ) → AreSoMany (marks_of r.item before) n → IsNext first r.line (n + b) next → IsLeastLine (IsTooDeep before bs) first
+    → IsLeastLine (IsTooDeep (r ∷ before) (b ∷ bs)) next
+least_by before r bs b n first next many (inl (past, e)) least = subst (λ m. IsLeastLine (IsTooDeep (r ∷ before) (b ∷ bs)) m) (sym e) (too_deep before r bs b n first many past least)
+least_by before r bs b n first next many (inr (within, e)) least = subst (λ m. IsLeastLine (IsTooDeep (r ∷ before) (b ∷ bs)) m) (sym e) (not_too_deep before r bs b n first many within least)
 
 pub least_next : (rows : List Row) (bs : List ℕ) (i : ℕ) (r : Row) (n : ℕ) (first next : Option ℕ) → i < length rows → i < length bs → r ≡ get_or rows i r
-    → AreSoMany (marks_of r.item (reverse (take i rows))) n → IsNext first r.line (n + get_or bs i 0) next → IsLeast (IsTooDeep (reverse (take i rows)) (reverse (take i bs))) first
-    → IsLeast (IsTooDeep (reverse (take (i + 1) rows)) (reverse (take (i + 1) bs))) next
+    → AreSoMany (marks_of r.item (reverse (take i rows))) n → IsNext first r.line (n + get_or bs i 0) next → IsLeastLine (IsTooDeep (reverse (take i rows)) (reverse (take i bs))) first
+    → IsLeastLine (IsTooDeep (reverse (take (i + 1) rows)) (reverse (take (i + 1) bs))) next
 least_next rows bs i r n first next within within_ at many is least =
     let more_rows = turned_more rows i r within at in
     let more_bs : reverse (take (i + 1) bs) ≡ get_or bs i 0 ∷ reverse (take i bs) = ap reverse (take_more bs i 0 within_) ∙ reverse-append (take i bs) (get_or bs i 0 ∷ []) in
-    subst (λ rs. IsLeast (IsTooDeep rs (reverse (take (i + 1) bs))) next) (sym more_rows)
-    (subst (λ ys. IsLeast (IsTooDeep (r ∷ reverse (take i rows)) ys) next) (sym more_bs) (least_by (reverse (take i rows)) r (reverse (take i bs)) (get_or bs i 0) n first next many is least))
+    subst (λ rs. IsLeastLine (IsTooDeep rs (reverse (take (i + 1) bs))) next) (sym more_rows)
+    (subst (λ ys. IsLeastLine (IsTooDeep (r ∷ reverse (take i rows)) ys) next) (sym more_bs) (least_by (reverse (take i rows)) r (reverse (take i bs)) (get_or bs i 0) n first next many is least))

@@ -5,4 +5,5 @@ pub mod Machine
 pub mod Nests
 pub mod Open
 pub mod Depths
+pub mod OpenBlocks
 pub mod Counting

@@ -1,9 +1,10 @@
 -- The state behind each mark is that of the blocks.
-use Rattle.std.proofs.Common.{◌≡◌, ◌⊎◌, inl, inr, ℕ, ◌<◌, ◌≤◌, nat_lt, Bool, true, false, if◌then◌else◌, List, [], ◌∷◌, ◌++◌, reverse, length, Option, None, Some, Result, Ok, Err, OnOk, refl, sym, ◌∙◌, ap, subst, arith}
+use Rattle.std.proofs.Common.{◌≡◌, ◌⊎◌, inl, inr, ℕ, Bool, true, false, if◌then◌else◌, List, [], ◌∷◌, ◌++◌, reverse, length, Option, None, Some, Result, Ok, Err, OnOk, refl, sym, ◌∙◌, ap, subst, arith}
 use Rattle.std.proofs.lemmas.List.{reverse-append}
-use Rattle.std.proofs.lemmas.Grind.{common_steps}
-use Rattle.vb_ends.specs.{declared.{role.{Sort.Sort, Role.Role, Mark.Mark}, stack.Open.Open}, Enders.{Block, block, is_statement, Stops, IsOpen, BreaksBackwards, IsLeast, IsAmong, AreOpen}, Counts.{same_sort, holds}, Stack.{State, lesser_of, passed, ended_statement, ended_other, stepped, left, IsState, kept, HasNoBlock, SomeMarkBreaks}, Brackets.{mark_opens, mark_ends, mark_stays}}
+use Rattle.vb_ends.specs.{declared.{role.{Sort.Sort, Role.Role, Mark.Mark}, stack.Open.Open}, Enders.{Block, block, is_statement, Stops, IsOpen, BreaksBackwards, IsAmong, AreOpen}, Counts.{same_sort, holds}, Stack.{State, passed, ended_statement, ended_other, stepped, left, IsState, kept, HasNoBlock, SomeMarkBreaks}, Brackets.{mark_opens, mark_ends, mark_stays}}
 use Rattle.vb_ends.specs.declared.role.Role.TheVariants as role
+use Rattle.vb_diag.specs.Broken.{IsLeastLine, lesser_line}
+use Rattle.vb_diag.proofs.Least.{least_same, least_of_two, lines_ordered}
 use Rattle.vb_ends.proofs.{Partners.{IsDecided, there, back}, Sorts.{same_is, same_not}, Nesting.{IsLineOf, closes, Found, open_more, open_same, open_less, open_still, breaks_found, found_breaks, breaks_alone, alone_breaks, none_in_none, none_of_statement, none_of_sort}}
 
 -- THE INNERMOST BLOCK IS THE LAST
@@ -11,17 +12,17 @@ use Rattle.vb_ends.proofs.{Partners.{IsDecided, there, back}, Sorts.{same_is, sa
 pub snoc : (xs : List Open) (x : Open) → reverse (xs ++ x ∷ []) ≡ x ∷ reverse xs
 snoc xs x = reverse-append xs (x ∷ [])
 
-pub left_next : (xs : List Open) (x : Open) (first : Option ℕ) → left (reverse (xs ++ x ∷ [])) first ≡ left (reverse xs) (lesser_of first x.line)
+pub left_next : (xs : List Open) (x : Open) (first : Option ℕ) → left (reverse (xs ++ x ∷ [])) first ≡ left (reverse xs) (lesser_line first (Some x.line))
 unfolding left
 left_next xs x first = ap (λ os. left os first) (snoc xs x)
 
 pub passed_here : (s : Sort) (xs : List Open) (x : Open) (first : Option ℕ) → same_sort x.sort s ≡ true → passed s (reverse (xs ++ x ∷ [])) first ≡ (reverse xs, first)
 unfolding passed
-passed_here s xs x first e = ap (λ os. passed s os first) (snoc xs x) ∙ ap (λ b. if b then (reverse xs, first) else passed s (reverse xs) (lesser_of first x.line)) e
+passed_here s xs x first e = ap (λ os. passed s os first) (snoc xs x) ∙ ap (λ b. if b then (reverse xs, first) else passed s (reverse xs) (lesser_line first (Some x.line))) e
 
-pub passed_next : (s : Sort) (xs : List Open) (x : Open) (first : Option ℕ) → same_sort x.sort s ≡ false → passed s (reverse (xs ++ x ∷ [])) first ≡ passed s (reverse xs) (lesser_of first x.line)
+pub passed_next : (s : Sort) (xs : List Open) (x : Open) (first : Option ℕ) → same_sort x.sort s ≡ false → passed s (reverse (xs ++ x ∷ [])) first ≡ passed s (reverse xs) (lesser_line first (Some x.line))
 unfolding passed
-passed_next s xs x first e = ap (λ os. passed s os first) (snoc xs x) ∙ ap (λ b. if b then (reverse xs, first) else passed s (reverse xs) (lesser_of first x.line)) e
+passed_next s xs x first e = ap (λ os. passed s os first) (snoc xs x) ∙ ap (λ b. if b then (reverse xs, first) else passed s (reverse xs) (lesser_line first (Some x.line))) e
 
 pub left_none : (xs : List Open) (first : Option ℕ) → xs ≡ [] → left (reverse xs) first ≡ first
 unfolding left
@@ -33,57 +34,47 @@ passed_none s xs ys first e = ap (λ zs. (reverse zs, first)) e.1 ∙ sym (ap (�
 
 -- THE LEAST LINE
 
-pub least_same : (B C : ℕ → Type 0) (first : Option ℕ) → IsLeast B first → ((l : ℕ) → B l → C l) → ((l : ℕ) → C l → B l) → IsLeast C first
-least_same B C None least there back = λ l h. least l (back l h)
-least_same B C (Some n) least there back = (there n least.0, λ l h. least.1 l (back l h))
+pub least_one : (B : ℕ → Type 0) (first : Option ℕ) (line : ℕ) → IsLeastLine B first → IsLeastLine (λ l. B l ⊎ (l ≡ line)) (lesser_line first (Some line))
+least_one B first line least = least_of_two lines_ordered B (λ l. l ≡ line) first (Some line) least (refl, λ l e. omega (arith, e))
 
-lesser_by : (B : ℕ → Type 0) (n line : ℕ) (b : Bool) → nat_lt line n ≡ b → IsLeast B (Some n) → IsLeast (λ l. B l ⊎ (l ≡ line)) (if b then Some line else Some n)
-lesser_by B n line true e least = (inr refl, λ l h. elim h [ inl k ↦ let past = least.1 l k in let before : line < n = grind (arith, common_steps) in omega (arith, before, past) | inr same ↦ omega (arith, same) ])
-lesser_by B n line false e least = (inl least.0, λ l h. elim h [ inl k ↦ least.1 l k | inr same ↦ let past : n ≤ line = grind (arith, common_steps) in omega (arith, past, same) ])
-
-pub least_one : (B : ℕ → Type 0) (first : Option ℕ) (line : ℕ) → IsLeast B first → IsLeast (λ l. B l ⊎ (l ≡ line)) (lesser_of first line)
-unfolding lesser_of
-least_one B None line least = (inr refl, λ l h. elim h [ inl k ↦ absurd (least l k) | inr same ↦ omega (arith, same) ])
-least_one B (Some n) line least = lesser_by B n line (nat_lt line n) refl least
-
-least_lines : (bs : List Block) (B : ℕ → Type 0) (first : Option ℕ) → IsLeast B first → IsLeast (λ l. B l ⊎ IsLineOf bs l) (left (kept bs) first)
+least_lines : (bs : List Block) (B : ℕ → Type 0) (first : Option ℕ) → IsLeastLine B first → IsLeastLine (λ l. B l ⊎ IsLineOf bs l) (left (kept bs) first)
 unfolding left
-least_lines [] B first least = least_same B (λ l. B l ⊎ IsLineOf [] l) first least (λ l h. inl h) (λ l h. elim h [ inl k ↦ k | inr (b, k, e) ↦ absurd k ])
+least_lines [] B first least = least_same lines_ordered B (λ l. B l ⊎ IsLineOf [] l) first least (λ l h. inl h) (λ l h. elim h [ inl k ↦ k | inr (b, k, e) ↦ absurd k ])
 least_lines (x ∷ xs) B first least =
-    least_same (λ l. (B l ⊎ (l ≡ x.line)) ⊎ IsLineOf xs l) (λ l. B l ⊎ IsLineOf (x ∷ xs) l) (left (kept xs) (lesser_of first x.line))
-    (least_lines xs (λ l. B l ⊎ (l ≡ x.line)) (lesser_of first x.line) (least_one B first x.line least))
+    least_same lines_ordered (λ l. (B l ⊎ (l ≡ x.line)) ⊎ IsLineOf xs l) (λ l. B l ⊎ IsLineOf (x ∷ xs) l) (left (kept xs) (lesser_line first (Some x.line)))
+    (least_lines xs (λ l. B l ⊎ (l ≡ x.line)) (lesser_line first (Some x.line)) (least_one B first x.line least))
     (λ l h. elim h [ inl (inl k) ↦ inl k | inl (inr e) ↦ inr (x, inl refl, e) | inr (b, k, e) ↦ inr (b, inr k, e) ])
     (λ l h. elim h [ inl k ↦ inl (inl k) | inr (b, inl k, e) ↦ inl (inr (e ∙ ap (λ y. y.line) k)) | inr (b, inr k, e) ↦ inr (b, k, e) ])
 
 -- AN ENDER
 
-found : (ps : List Block) (c : Block) (rest : List Block) (marks : List Mark) (s : Sort) (here : ℕ) (first : Option ℕ) → Found ps c rest marks s → IsLeast (SomeMarkBreaks marks) first
+found : (ps : List Block) (c : Block) (rest : List Block) (marks : List Mark) (s : Sort) (here : ℕ) (first : Option ℕ) → Found ps c rest marks s → IsLeastLine (SomeMarkBreaks marks) first
     → IsState (kept rest, left (kept ps) first) (mark_ends s here ∷ marks)
 found ps c rest marks s here first f least = record {
   blocks = rest;
   are_open = open_less ps c rest marks s here f;
   kept_are = refl;
-  least = least_same (λ l. SomeMarkBreaks marks l ⊎ IsLineOf ps l) (SomeMarkBreaks (mark_ends s here ∷ marks)) (left (kept ps) first) (least_lines ps (SomeMarkBreaks marks) first least)
+  least = least_same lines_ordered (λ l. SomeMarkBreaks marks l ⊎ IsLineOf ps l) (SomeMarkBreaks (mark_ends s here ∷ marks)) (left (kept ps) first) (least_lines ps (SomeMarkBreaks marks) first least)
       (breaks_found ps c rest marks s here f) (found_breaks ps c rest marks s here f);
 }
 
-alone : (bs : List Block) (marks : List Mark) (s : Sort) (here : ℕ) (first : Option ℕ) → AreOpen bs marks → HasNoBlock (IsOpen marks) s → IsLeast (SomeMarkBreaks marks) first
-    → IsState (kept bs, lesser_of first here) (mark_ends s here ∷ marks)
+alone : (bs : List Block) (marks : List Mark) (s : Sort) (here : ℕ) (first : Option ℕ) → AreOpen bs marks → HasNoBlock (IsOpen marks) s → IsLeastLine (SomeMarkBreaks marks) first
+    → IsState (kept bs, lesser_line first (Some here)) (mark_ends s here ∷ marks)
 alone bs marks s here first o none least = record {
   blocks = bs;
   are_open = open_still bs marks s here o none;
   kept_are = refl;
-  least = least_same (λ l. SomeMarkBreaks marks l ⊎ (l ≡ here)) (SomeMarkBreaks (mark_ends s here ∷ marks)) (lesser_of first here) (least_one (SomeMarkBreaks marks) first here least)
+  least = least_same lines_ordered (λ l. SomeMarkBreaks marks l ⊎ (l ≡ here)) (SomeMarkBreaks (mark_ends s here ∷ marks)) (lesser_line first (Some here)) (least_one (SomeMarkBreaks marks) first here least)
       (breaks_alone marks s here none) (alone_breaks marks s here none);
 }
 
 statement_by : (same : Bool) (x : Block) (bs : List Block) (marks : List Mark) (s : Sort) (here : ℕ) (first : Option ℕ) → same_sort x.sort s ≡ same → AreOpen (x ∷ bs) marks
-    → is_statement s ≡ true → IsLeast (SomeMarkBreaks marks) first → IsState (if same then (kept bs, first) else (kept (x ∷ bs), lesser_of first here)) (mark_ends s here ∷ marks)
+    → is_statement s ≡ true → IsLeastLine (SomeMarkBreaks marks) first → IsState (if same then (kept bs, first) else (kept (x ∷ bs), lesser_line first (Some here))) (mark_ends s here ∷ marks)
 unfolding left
 statement_by true x bs marks s here first e o statement least = found [] x bs marks s here first (record { are_open = o; fits = same_is x.sort s e; none_stops = λ b h k. absurd h }) least
 statement_by false x bs marks s here first e o statement least = alone (x ∷ bs) marks s here first o (none_of_statement x bs marks s o statement (same_not x.sort s e)) least
 
-statement : (bs : List Block) (marks : List Mark) (s : Sort) (here : ℕ) (first : Option ℕ) → AreOpen bs marks → is_statement s ≡ true → IsLeast (SomeMarkBreaks marks) first
+statement : (bs : List Block) (marks : List Mark) (s : Sort) (here : ℕ) (first : Option ℕ) → AreOpen bs marks → is_statement s ≡ true → IsLeastLine (SomeMarkBreaks marks) first
     → IsState (ended_statement s here (kept bs) first) (mark_ends s here ∷ marks)
 unfolding ended_statement
 statement [] marks s here first o is least = alone [] marks s here first o (none_in_none marks s o) least
@@ -109,7 +100,7 @@ split_by true s x bs e h again = record {
   parts = refl;
   fits = same_is x.sort s e;
   differ = λ b k. absurd k;
-  passed_is = λ first. ap (λ b. if b then (kept bs, first) else passed s (kept bs) (lesser_of first x.line)) e;
+  passed_is = λ first. ap (λ b. if b then (kept bs, first) else passed s (kept bs) (lesser_line first (Some x.line))) e;
 }
 split_by false s x bs e h again =
     let found_ = again h in
@@ -120,7 +111,7 @@ split_by false s x bs e h again =
       parts = ap (λ ys. x ∷ ys) found_.parts;
       fits = found_.fits;
       differ = λ b k fits. elim k [ inl same ↦ same_not x.sort s e (sym (ap (λ y. y.sort) same) ∙ fits) | inr within ↦ found_.differ b within fits ];
-      passed_is = λ first. ap (λ b. if b then (kept bs, first) else passed s (kept bs) (lesser_of first x.line)) e ∙ found_.passed_is (lesser_of first x.line);
+      passed_is = λ first. ap (λ b. if b then (kept bs, first) else passed s (kept bs) (lesser_line first (Some x.line))) e ∙ found_.passed_is (lesser_line first (Some x.line));
     }
 
 find : (s : Sort) (bs : List Block) → holds s (kept bs) ≡ true → Split s bs
@@ -144,7 +135,7 @@ stops_by s b is differs_ (inl h) = cc
 stops_by s b is differs_ (inr fits) = differs_ fits
 
 other_by : (held : Bool) (bs : List Block) (marks : List Mark) (s : Sort) (here : ℕ) (first : Option ℕ) → holds s (kept bs) ≡ held → AreOpen bs marks → is_statement s ≡ false
-    → IsLeast (SomeMarkBreaks marks) first → IsState (if held then passed s (kept bs) first else (kept bs, lesser_of first here)) (mark_ends s here ∷ marks)
+    → IsLeastLine (SomeMarkBreaks marks) first → IsState (if held then passed s (kept bs) first else (kept bs, lesser_line first (Some here))) (mark_ends s here ∷ marks)
 other_by true bs marks s here first e o is least =
     let split_ = find s bs e in
     subst (λ st. IsState st (mark_ends s here ∷ marks)) (sym (split_.passed_is first))
@@ -155,22 +146,22 @@ other_by true bs marks s here first e o is least =
     }) least)
 other_by false bs marks s here first e o is least = alone bs marks s here first o (none_of_sort bs marks s o (differs s bs e)) least
 
-other : (bs : List Block) (marks : List Mark) (s : Sort) (here : ℕ) (first : Option ℕ) → AreOpen bs marks → is_statement s ≡ false → IsLeast (SomeMarkBreaks marks) first
+other : (bs : List Block) (marks : List Mark) (s : Sort) (here : ℕ) (first : Option ℕ) → AreOpen bs marks → is_statement s ≡ false → IsLeastLine (SomeMarkBreaks marks) first
     → IsState (ended_other s here (kept bs) first) (mark_ends s here ∷ marks)
 unfolding ended_other
 other bs marks s here first o is least = other_by (holds s (kept bs)) bs marks s here first refl o is least
 
-ends_by : (is : Bool) (bs : List Block) (marks : List Mark) (s : Sort) (here : ℕ) (first : Option ℕ) → is_statement s ≡ is → AreOpen bs marks → IsLeast (SomeMarkBreaks marks) first
+ends_by : (is : Bool) (bs : List Block) (marks : List Mark) (s : Sort) (here : ℕ) (first : Option ℕ) → is_statement s ≡ is → AreOpen bs marks → IsLeastLine (SomeMarkBreaks marks) first
     → IsState (if is then ended_statement s here (kept bs) first else ended_other s here (kept bs) first) (mark_ends s here ∷ marks)
 ends_by true bs marks s here first e o least = statement bs marks s here first o e least
 ends_by false bs marks s here first e o least = other bs marks s here first o e least
 
 -- A MARK
 
-stays_least : (marks : List Mark) (r : Mark) (first : Option ℕ) → ((l : ℕ) → SomeMarkBreaks (r ∷ marks) l → SomeMarkBreaks marks l) → IsLeast (SomeMarkBreaks marks) first → IsLeast (SomeMarkBreaks (r ∷ marks)) first
-stays_least marks r first back least = least_same (SomeMarkBreaks marks) (SomeMarkBreaks (r ∷ marks)) first least (λ l h. inr h) back
+stays_least : (marks : List Mark) (r : Mark) (first : Option ℕ) → ((l : ℕ) → SomeMarkBreaks (r ∷ marks) l → SomeMarkBreaks marks l) → IsLeastLine (SomeMarkBreaks marks) first → IsLeastLine (SomeMarkBreaks (r ∷ marks)) first
+stays_least marks r first back least = least_same lines_ordered (SomeMarkBreaks marks) (SomeMarkBreaks (r ∷ marks)) first least (λ l h. inr h) back
 
-mark_next : (k : Role) (here : ℕ) (bs : List Block) (first : Option ℕ) (marks : List Mark) → AreOpen bs marks → IsLeast (SomeMarkBreaks marks) first
+mark_next : (k : Role) (here : ℕ) (bs : List Block) (first : Option ℕ) (marks : List Mark) → AreOpen bs marks → IsLeastLine (SomeMarkBreaks marks) first
     → IsState (stepped k here (kept bs, first)) (record { role = k; line = here } ∷ marks)
 unfolding stepped
 mark_next (role.Opens s) here bs first marks o least = record {
@@ -244,9 +235,9 @@ ender_decided false bs marks s e o = other_decided (holds s (kept bs)) bs marks 
 pub decided : (marks : List Mark) (s : Sort) → IsDecided (IsOpen marks) s
 decided marks s = let t = run_is marks in ender_decided (is_statement s) t.blocks marks s refl t.are_open
 
-pub state_last : (st : State) (marks : List Mark) → IsState st marks → IsLeast (BreaksBackwards marks) (left st.0 st.1)
+pub state_last : (st : State) (marks : List Mark) → IsState st marks → IsLeastLine (BreaksBackwards marks) (left st.0 st.1)
 state_last st marks t =
-    subst (λ stack. IsLeast (BreaksBackwards marks) (left stack st.1)) t.kept_are
-    (least_same (λ l. SomeMarkBreaks marks l ⊎ IsLineOf t.blocks l) (BreaksBackwards marks) (left (kept t.blocks) st.1) (least_lines t.blocks (SomeMarkBreaks marks) st.1 t.least)
+    subst (λ stack. IsLeastLine (BreaksBackwards marks) (left stack st.1)) t.kept_are
+    (least_same lines_ordered (λ l. SomeMarkBreaks marks l ⊎ IsLineOf t.blocks l) (BreaksBackwards marks) (left (kept t.blocks) st.1) (least_lines t.blocks (SomeMarkBreaks marks) st.1 t.least)
     (λ l h. there marks l (elim h [ inl k ↦ inl k | inr (b, k, e) ↦ inr (b, t.are_open.none_else b k, e) ]))
     (λ l h. elim (back decided marks l h) [ inl k ↦ inl k | inr (b, k, e) ↦ inr (b, t.are_open.all b k, e) ]))

@@ -1,8 +1,9 @@
 -- A file breaks the rule nowhere exactly where its blocks stand as brackets do.
 use Rattle.std.proofs.Common.{◌≡◌, inl, inr, ℕ, Bool, true, false, if◌then◌else◌, List, [], ◌∷◌, ◌++◌, reverse, length, None, refl, sym, ◌∙◌, ap, subst, append_assoc, append-nil}
 use Rattle.std.proofs.lemmas.List.{reverse-append, reverse-reverse}
-use Rattle.vb_ends.specs.{declared.{role.{Sort.Sort, Role.Role, Mark.Mark}, stack.Open.Open}, Enders.{Block, is_statement, Closes, IsOpen, IsBroken, BreaksBackwards, IsLeast, IsAmong, AreOpen}, Brackets.{mark_opens, mark_ends, mark_stays, AreBrackets, nothing, simple, block}, Counts.{same_sort, holds}, Stack.{State, stepped, ended_statement, ended_other, passed, left, SomeMarkBreaks}}
+use Rattle.vb_ends.specs.{declared.{role.{Sort.Sort, Role.Role, Mark.Mark}, stack.Open.Open}, Enders.{Block, is_statement, Closes, IsOpen, IsBroken, BreaksBackwards, IsAmong, AreOpen}, Brackets.{mark_opens, mark_ends, mark_stays, AreBrackets, nothing, simple, block}, Counts.{same_sort, holds}, Stack.{State, stepped, ended_statement, ended_other, passed, left, SomeMarkBreaks}}
 use Rattle.vb_ends.specs.declared.role.Role.TheVariants as role
+use Rattle.vb_diag.specs.Broken.{IsLeastLine}
 use Rattle.vb_ends.proofs.{Sorts.same_self, Nesting.{below, open_more, open_same, open_less}, Partners.{IsDecided, there}, Machine.{run, run_is, decided, state_last}}
 
 -- FROM THE END
@@ -163,10 +164,10 @@ run_none : run [] ≡ ([], None)
 unfolding run
 run_none = refl
 
-backwards_sound : (marks : List Mark) → Backwards marks → IsLeast (BreaksBackwards marks) None
+backwards_sound : (marks : List Mark) → Backwards marks → IsLeastLine (BreaksBackwards marks) None
 backwards_sound marks b =
     let same : run marks ≡ ([], None) = ap run (sym (append-nil marks)) ∙ unchanged b [] ∙ run_none in
-    subst (λ n. IsLeast (BreaksBackwards marks) n) (left_none (run marks) same) (state_last (run marks) marks (run_is marks))
+    subst (λ n. IsLeastLine (BreaksBackwards marks) n) (left_none (run marks) same) (state_last (run marks) marks (run_is marks))
 
 pub brackets_sound : (marks : List Mark) → AreBrackets marks → (line : ℕ) → IsBroken marks line → ⊥
 brackets_sound marks b = backwards_sound (reverse marks) (turned_back b)

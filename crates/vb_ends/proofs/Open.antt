@@ -1,7 +1,9 @@
 -- Where each ender closes the innermost block, the blocks that are left open have no end.
-use Rattle.std.proofs.Common.{◌≡◌, ℕ, nat_lt, Bool, true, false, if◌then◌else◌, List, [], ◌∷◌, map, Option, Some, None, refl, ◌∙◌, ap, subst}
-use Rattle.vb_ends.specs.{declared.{role.{Sort.Sort, Mark.Mark}, stack.Open.Open}, Enders.{BreaksBackwards, IsLeast, is_statement}, Counts.{same_sort, holds}, Roles.{AreOpenBehind, nothing, opens, ends, stays}, Stack.{State, lesser_of, stepped, ended_statement, ended_other, passed, left}}
+use Rattle.std.proofs.Common.{◌≡◌, ℕ, Bool, true, false, if◌then◌else◌, List, [], ◌∷◌, map, Option, Some, None, refl, ◌∙◌, ap, subst}
+use Rattle.vb_ends.specs.{declared.{role.{Sort.Sort, Mark.Mark}, stack.Open.Open}, Enders.{BreaksBackwards, is_statement}, Counts.{same_sort, holds}, Roles.{AreOpenBehind, nothing, opens, ends, stays}, Stack.{State, stepped, ended_statement, ended_other, passed, left}}
 use Rattle.vb_ends.specs.declared.role.Role.TheVariants as role
+use Rattle.std.specs.Ordering.{nat_cmp, ord_min}
+use Rattle.vb_diag.specs.Broken.{IsLeastLine, lesser_line}
 use Rattle.vb_ends.proofs.{Sorts.same_self, Machine.{run, run_is, state_last}, Nests.pick}
 
 -- the sorts of the blocks that are open
@@ -45,10 +47,6 @@ same_sorts : (line : ℕ) (st : State) → sorts_of (stepped role.Stays line st)
 unfolding stepped
 same_sorts line st = refl
 
-lesser_by : (b : Bool) (n line : ℕ) → (m : ℕ) × ((if b then Some line else Some n) ≡ Some m)
-lesser_by true n line = (line, refl)
-lesser_by false n line = (n, refl)
-
 open_sorts : {marks : List Mark} {ss : List Sort} → AreOpenBehind marks ss → sorts_of (run marks) ≡ ss
 unfolding run
 open_sorts nothing = refl
@@ -56,19 +54,18 @@ open_sorts (opens {marks = marks} s line a) = opened_sorts s line (run marks) �
 open_sorts (ends {marks = marks} {ss = ss} s line a) = ended_sorts s ss line (run marks).0 (run marks).1 (open_sorts a)
 open_sorts (stays {marks = marks} line a) = same_sorts line (run marks) ∙ open_sorts a
 
-lesser_some : (first : Option ℕ) (line : ℕ) → (n : ℕ) × (lesser_of first line ≡ Some n)
-unfolding lesser_of
+lesser_some : (first : Option ℕ) (line : ℕ) → (n : ℕ) × (lesser_line first (Some line) ≡ Some n)
 lesser_some None line = (line, refl)
-lesser_some (Some n) line = lesser_by (nat_lt line n) n line
+lesser_some (Some n) line = (ord_min nat_cmp n line, refl)
 
 left_some : (os : List Open) (first : Option ℕ) (n : ℕ) → first ≡ Some n → (m : ℕ) × (left os first ≡ Some m)
 unfolding left
 left_some [] first n e = (n, e)
-left_some (o ∷ os) first n e = let lesser = lesser_some first o.line in left_some os (lesser_of first o.line) lesser.0 lesser.1
+left_some (o ∷ os) first n e = let lesser = lesser_some first o.line in left_some os (lesser_line first (Some o.line)) lesser.0 lesser.1
 
 left_line : (o : Open) (os : List Open) (first : Option ℕ) → (m : ℕ) × (left (o ∷ os) first ≡ Some m)
 unfolding left
-left_line o os first = let lesser = lesser_some first o.line in left_some os (lesser_of first o.line) lesser.0 lesser.1
+left_line o os first = let lesser = lesser_some first o.line in left_some os (lesser_line first (Some o.line)) lesser.0 lesser.1
 
 left_open : (s : Sort) (ss : List Sort) (stack : List Open) (first : Option ℕ) → sorts_of (stack, first) ≡ s ∷ ss → (m : ℕ) × (left stack first ≡ Some m)
 left_open s ss [] first e = cc
@@ -78,4 +75,4 @@ pub open_break : (marks : List Mark) (s : Sort) (ss : List Sort) → AreOpenBehi
 open_break marks s ss a =
     let some_ = left_open s ss (run marks).0 (run marks).1 (open_sorts a) in
     let least = state_last (run marks) marks (run_is marks) in
-    (some_.0, (subst (λ n. IsLeast (BreaksBackwards marks) n) some_.1 least).0)
+    (some_.0, (subst (λ n. IsLeastLine (BreaksBackwards marks) n) some_.1 least).0)

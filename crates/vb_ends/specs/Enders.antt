@@ -1,6 +1,6 @@
 -- Which blocks of a file are open, and where a block has no end or an end has no block. The marks of a file are listed from
 -- its end: the last stands first, and behind each mark those before it.
-use Rattle.std.specs.Prelude.{◌≡◌, ◌⊎◌, ℕ, ◌<◌, ◌≤◌, Bool, true, false, List, [], ◌∷◌, length, reverse, Option, Some, None}
+use Rattle.std.specs.Prelude.{◌≡◌, ◌⊎◌, ℕ, ◌<◌, ◌≤◌, Bool, true, false, List, [], ◌∷◌, length, reverse}
 use Rattle.vb_ends.specs.declared.role.{Sort.Sort, Role.Role, Mark.Mark}
 use Rattle.vb_ends.specs.declared.role.Sort.TheVariants as sort
 use Rattle.vb_ends.specs.declared.role.Role.TheVariants as role
@@ -116,8 +116,3 @@ BreaksBackwards marks line = HasStray marks line ⊎ HasUnended marks line
 -- a file of these marks, here from its beginning on, breaks the rule in the line
 abbrev pub IsBroken : List Mark → ℕ → Type 0
 IsBroken marks line = BreaksBackwards (reverse marks) line
-
--- no line is of these, or this is the least that is
-abbrev pub IsLeast : (ℕ → Type 0) → Option ℕ → Type 0
-IsLeast Broken None = (line : ℕ) → Broken line → ⊥
-IsLeast Broken (Some first) = Broken first × ((line : ℕ) → Broken line → first ≤ line)

@@ -1,26 +1,18 @@
 -- Which rows of a file open a block and which end one. The rows are listed from the end of the file: the last stands first,
 -- and behind each row those before it.
 use Rattle.std.specs.Prelude.{ℕ, Bool, true, false, ◌&&◌, ◌||◌, if◌then◌else◌, List, [], ◌∷◌, Option, Some, None}
-use Rattle.vb_syntax.specs.{declared.{declaration.{Modifier.Modifier, ImplementedMember.ImplementedMember, NameModifier.NameModifier}, expression.Expr.Expr, item.{PropertyHeader.PropertyHeader, EventAccessorKind.EventAccessorKind, DeclarationLine.DeclarationLine, BlockWord.BlockWord, Item.Item, Row.Row}}, Items.{is_end, must_override}}
+use Rattle.vb_syntax.specs.{declared.{declaration.{Modifier.Modifier, ImplementedMember.ImplementedMember, NameModifier.NameModifier}, expression.Expr.Expr, item.{PropertyHeader.PropertyHeader, EventAccessorKind.EventAccessorKind, DeclarationLine.DeclarationLine, BlockWord.BlockWord, Item.Item, Row.Row}}, Items.{is_end, must_override, is_property_of_interface, goes_on_property as goes_on}}
 use Rattle.vb_syntax.specs.declared.declaration.FunctionKind.TheVariants as function
 use Rattle.vb_syntax.specs.declared.declaration.NameModifier.TheVariants as name_modifier
 use Rattle.vb_syntax.specs.declared.item.EventAccessorKind.TheVariants as accessor
 use Rattle.vb_syntax.specs.declared.item.DeclarationLine.TheVariants as line
 use Rattle.vb_syntax.specs.declared.item.BlockWord.TheVariants as block
 use Rattle.vb_syntax.specs.declared.item.Item.TheVariants as item
-use Rattle.vb_ends.specs.{declared.role.{Sort.Sort, Role.Role, Mark.Mark}, Brackets.{mark_opens, mark_ends, mark_stays}}
+use Rattle.vb_ends.specs.{declared.role.{Sort.Sort, Role.Role, Mark.Mark}, Brackets.{mark_opens, mark_ends, mark_stays}, OpenBlocks.in_interface}
 use Rattle.vb_ends.specs.declared.role.Sort.TheVariants as sort
 use Rattle.vb_ends.specs.declared.role.Role.TheVariants as role
 
 -- MEMBERS WITHOUT A BLOCK (Visual Basic Language Specification 11.0, 7.8.2 and 9)
-
--- behind the name and the type of a property nothing stands: no `()`, no value and no interface's member
-abbrev pub has_no_more : NameModifier → Option Expr → List ImplementedMember → Bool
-has_no_more name_modifier.Plain None [] = true
-has_no_more m i is = false
-
-abbrev pub is_property_of_interface : PropertyHeader → Bool
-is_property_of_interface h = has_no_more h.modifier h.initializer h.implements
 
 -- the header of a member as an interface has it: without modifiers, and implementing nothing
 abbrev pub is_header_of_interface : DeclarationLine → Bool
@@ -30,25 +22,12 @@ is_header_of_interface (line.Property [] h) = is_property_of_interface h
 is_header_of_interface (line.Event [] n h []) = true
 is_header_of_interface d = false
 
--- directly in an interface: its header is the last row but for such headers and `Inherits`
-abbrev pub keeps_in_interface : Option Item → Bool → Bool
-keeps_in_interface (Some (item.Declares (line.Interface a n ps))) inside = true
-keeps_in_interface (Some (item.Declares (line.Inherits ts))) inside = inside
-keeps_in_interface (Some (item.Declares d)) inside = is_header_of_interface d && inside
-keeps_in_interface i inside = false
-
-abbrev pub in_interface : List Row → Bool
-in_interface [] = false
-in_interface (r ∷ before) = keeps_in_interface r.item (in_interface before)
-
 -- OPENERS AND ENDERS
 
--- an accessor of a property, or the property's end
+-- the item goes on with a property
 abbrev pub goes_on_property : Option Item → Bool
-goes_on_property (Some (item.Declares (line.Get a))) = true
-goes_on_property (Some (item.Declares (line.Set a ps))) = true
-goes_on_property (Some (item.End block.Property)) = true
-goes_on_property i = false
+goes_on_property (Some i) = goes_on i
+goes_on_property None = false
 
 abbrev pub accessor_sort : EventAccessorKind → Sort
 accessor_sort accessor.AddHandler = sort.AddHandler
@@ -134,14 +113,17 @@ abbrev pub item_role : Bool → Option Item → Option Item → Role
 item_role inside (Some i) next = opens_or_ends (opened inside i next) (ended i)
 item_role inside None next = role.Stays
 
--- what a row does to blocks, with these rows before it and this item behind it
-abbrev pub role_of : List Row → Row → Option Item → Role
-role_of before r next = if is_alone before r then item_role (in_interface before) r.item next else role.Stays
+-- what a row does to blocks, with these rows before it, whose marks are these, and this item behind it
+abbrev pub role_of : List Row → List Mark → Row → Option Item → Role
+role_of before marks r next = if is_alone before r then item_role (in_interface marks) r.item next else role.Stays
+
+abbrev pub with_mark : List Row → List Mark → Row → Option Item → List Mark
+with_mark before marks r next = record { role = role_of before marks r next; line = r.line } ∷ marks
 
 -- what each row does to blocks, where this item stands behind the last
 abbrev pub marks_of : Option Item → List Row → List Mark
 marks_of next [] = []
-marks_of next (r ∷ before) = record { role = role_of before r next; line = r.line } ∷ marks_of r.item before
+marks_of next (r ∷ before) = with_mark before (marks_of r.item before) r next
 
 -- OPEN BLOCKS WHERE EACH ENDER CLOSES THE INNERMOST ONE
 

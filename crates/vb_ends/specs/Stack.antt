@@ -1,12 +1,8 @@
 -- The same with a stack.
-use Rattle.std.specs.Prelude.{◌≡◌, ◌⊎◌, ℕ, ◌<◌, nat_lt, if◌then◌else◌, List, [], ◌∷◌, reverse, Option, Some, None}
-use Rattle.vb_ends.specs.{declared.{role.{Sort.Sort, Role.Role, Mark.Mark}, stack.Open.Open, blocks.Blocks.Blocks}, Enders.{Block, Closes, IsOpen, IsStray, AreOpen, IsLeast, is_statement}, Counts.{same_sort, holds}}
+use Rattle.std.specs.Prelude.{◌≡◌, ◌⊎◌, ℕ, ◌<◌, if◌then◌else◌, List, [], ◌∷◌, reverse, Option, Some}
+use Rattle.vb_ends.specs.{declared.{role.{Sort.Sort, Role.Role, Mark.Mark}, stack.Open.Open, blocks.Blocks.Blocks}, Enders.{Block, Closes, IsOpen, IsStray, AreOpen, is_statement}, Counts.{same_sort, holds}}
 use Rattle.vb_ends.specs.declared.role.Role.TheVariants as role
-
--- the least line so far, and one more
-unfoldable pub lesser_of : Option ℕ → ℕ → Option ℕ
-lesser_of None line = Some line
-lesser_of (Some first) line = if nat_lt line first then Some line else Some first
+use Rattle.vb_diag.specs.Broken.{IsLeastLine, lesser_line}
 
 -- the blocks that are open, the innermost first, and the least line so far
 abbrev pub State : Type 0
@@ -18,17 +14,17 @@ state_of blocks = (reverse blocks.stack, blocks.first)
 
 -- behind the ender of a statement
 unfoldable pub ended_statement : Sort → ℕ → List Open → Option ℕ → State
-ended_statement s line [] first = ([], lesser_of first line)
-ended_statement s line (o ∷ os) first = if same_sort o.sort s then (os, first) else (o ∷ os, lesser_of first line)
+ended_statement s line [] first = ([], lesser_line first (Some line))
+ended_statement s line (o ∷ os) first = if same_sort o.sort s then (os, first) else (o ∷ os, lesser_line first (Some line))
 
 -- without the innermost block of the sort and those inside it, which have no end
 unfoldable pub passed : Sort → List Open → Option ℕ → State
 passed s [] first = ([], first)
-passed s (o ∷ os) first = if same_sort o.sort s then (os, first) else passed s os (lesser_of first o.line)
+passed s (o ∷ os) first = if same_sort o.sort s then (os, first) else passed s os (lesser_line first (Some o.line))
 
 -- behind another ender
 unfoldable pub ended_other : Sort → ℕ → List Open → Option ℕ → State
-ended_other s line stack first = if holds s stack then passed s stack first else (stack, lesser_of first line)
+ended_other s line stack first = if holds s stack then passed s stack first else (stack, lesser_line first (Some line))
 
 -- behind a mark of the role
 unfoldable pub stepped : Role → ℕ → State → State
@@ -39,7 +35,7 @@ stepped role.Stays line st = st
 -- the least line at the end, where the blocks that are open have no end
 unfoldable pub left : List Open → Option ℕ → Option ℕ
 left [] first = first
-left (o ∷ os) first = left os (lesser_of first o.line)
+left (o ∷ os) first = left os (lesser_line first (Some o.line))
 
 -- what the code keeps of blocks
 abbrev pub kept : List Block → List Open
@@ -77,7 +73,7 @@ pub record IsState (st : State) (marks : List Mark) : Type 0 where
   pub blocks : List Block
   pub are_open : AreOpen blocks marks
   pub kept_are : kept blocks ≡ st.0
-  pub least : IsLeast (SomeMarkBreaks marks) st.1
+  pub least : IsLeastLine (SomeMarkBreaks marks) st.1
 
 -- The blocks are those of marks.
 abbrev pub Tracks : Blocks → List Mark → Type 0

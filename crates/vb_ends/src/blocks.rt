@@ -3,12 +3,15 @@ ghost use Rattle.std.specs.Prelude.{◌≡◌, List, [], ◌∷◌, reverse, OnO
 ghost use Rattle.vb_ends.specs.declared.role.Mark.{Mark as OneMark};
 ghost use Rattle.vb_ends.specs.Depth.{AreSoMany};
 ghost use Rattle.vb_ends.specs.Enders as spec;
-ghost use Rattle.vb_ends.specs.Enders.{BreaksBackwards, IsBroken, IsLeast};
-ghost use Rattle.vb_ends.specs.Stack.{Tracks, lesser_of, state_of, ended_statement, ended_other, passed, stepped, left};
+ghost use Rattle.vb_diag.specs.Broken.{IsLeastLine};
+ghost use Rattle.vb_ends.specs.Enders.{BreaksBackwards, IsBroken};
+ghost use Rattle.vb_ends.specs.OpenBlocks as open_blocks;
+ghost use Rattle.vb_ends.specs.Stack.{Tracks, state_of, ended_statement, ended_other, passed, stepped, left};
 
 use crate::role::{Mark, Role, Sort};
 use crate::stack::{Open, Stack, is_same};
 use std::alloc::{AllocError, Global};
+use vb_diag::lesser;
 
 /// The blocks of a file, as far as its marks were read (Visual Basic Language Specification 11.0, 7, 9 and 10).
 #[derive(Drop)]
@@ -19,8 +22,8 @@ pub struct Blocks {
     first: Option<u32>,
 }
 
-// Whether the blocks of the sort are statements.
-fn is_statement(sort: Sort) -> bool
+/// Whether the blocks of the sort are statements (Visual Basic Language Specification 11.0, 10).
+pub fn is_statement(sort: Sort) -> bool
     ensures { result ≡ spec.is_statement sort }
 {
     matches!(
@@ -35,18 +38,6 @@ fn is_statement(sort: Sort) -> bool
             | Sort::With
             | Sort::Using
     )
-}
-
-// The least line so far, and one more.
-#[tactic(auto, unfolding(crate::specs::Stack::lesser_of))]
-pub fn lesser(first: Option<u32>, line: u32) -> Option<u32>
-    ensures { result ≡ lesser_of first line }
-{
-    match first {
-        None => Some(line),
-        Some(first) if line < first => Some(line),
-        Some(first) => Some(first),
-    }
 }
 
 impl Blocks {
@@ -70,7 +61,7 @@ impl Blocks {
             self.stack.pop();
             return;
         }
-        self.first = lesser(self.first, line);
+        self.first = lesser(self.first, Some(line));
     }
 
     // Takes the innermost block of the sort out, with those inside it, which have no end.
@@ -81,7 +72,7 @@ impl Blocks {
             if is_same(block.sort, sort) {
                 return;
             }
-            self.first = lesser(self.first, block.line);
+            self.first = lesser(self.first, Some(block.line));
         }
     }
 
@@ -93,7 +84,7 @@ impl Blocks {
         if self.stack.holds(sort) {
             self.pass(sort);
         } else {
-            self.first = lesser(self.first, line);
+            self.first = lesser(self.first, Some(line));
         }
     }
 
@@ -133,16 +124,26 @@ impl Blocks {
         self.stack.len()
     }
 
+    /// Whether what stands behind the marks so far stands directly in an interface: that is the innermost open block.
+    pub fn in_interface(&self) -> bool
+        ensures { (marks : List OneMark) → Tracks self.now marks → result ≡ open_blocks.in_interface marks }
+    {
+        match self.stack.last() {
+            Some(block) => is_same(block.sort, Sort::Interface),
+            None => false,
+        }
+    }
+
     /// The file has ended: the least line at which a block has no end or an end has no block.
     pub fn finish(self) -> Option<u32>
-        ensures { (marks : List OneMark) → Tracks self marks → IsLeast (BreaksBackwards marks) result }
+        ensures { (marks : List OneMark) → Tracks self marks → IsLeastLine (BreaksBackwards marks) result }
     {
         let Blocks {
             mut stack,
             mut first,
         } = self;
         while let Some(block) = stack.pop() {
-            first = lesser(first, block.line);
+            first = lesser(first, Some(block.line));
         }
         first
     }
@@ -153,7 +154,7 @@ impl Blocks {
 ///
 /// The error is want of memory.
 pub fn first_broken(alloc: Global, marks: &[Mark]) -> Result<Option<u32>, AllocError>
-    ensures { IfOk result (λ first. IsLeast (IsBroken marks.now) first) }
+    ensures { IfOk result (λ first. IsLeastLine (IsBroken marks.now) first) }
 {
     let mut blocks = Blocks::new(alloc);
     for mark in marks {

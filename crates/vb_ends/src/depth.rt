@@ -1,11 +1,11 @@
 // How deep the rows of a file stand in blocks and brackets.
 ghost use Rattle.std.specs.Prelude.{◌≡◌, ◌↔◌, ◌+◌, ◌<◌, length, reverse, IsTrue, IfOk};
-ghost use Rattle.vb_ends.specs.Enders.{IsLeast};
+ghost use Rattle.vb_diag.specs.Broken.{IsLeastLine};
 ghost use Rattle.vb_ends.specs.Depth.{IsTooDeep};
 
-use crate::blocks::lesser;
 use crate::reading::{Reader, item_at};
 use std::alloc::{AllocError, Global};
+use vb_diag::lesser;
 use vb_syntax::Row;
 
 // So many blocks and brackets may be open together.
@@ -28,13 +28,13 @@ pub fn first_too_deep(
     brackets: &[usize],
 ) -> Result<Option<u32>, AllocError>
     requires { length brackets.now ≡ length rows.now }
-    ensures { IfOk result (λ first. IsLeast (λ line. IsTooDeep (reverse rows.now) (reverse brackets.now) line) first) }
+    ensures { IfOk result (λ first. IsLeastLine (λ line. IsTooDeep (reverse rows.now) (reverse brackets.now) line) first) }
 {
     let mut reader = Reader::new(alloc);
     let mut first = None;
     for (at, row) in rows.iter().enumerate() {
         if is_too_deep(reader.blocks.depth(), brackets[at]) {
-            first = lesser(first, row.line);
+            first = lesser(first, Some(row.line));
         }
         reader.take(row, item_at(rows, at + 1))?;
     }

@@ -3,7 +3,8 @@ ghost use Rattle.std.specs.Prelude.{ℕ, List, ◌∷◌};
 ghost use Rattle.vb_ends.specs.declared.role.Mark.{Mark};
 ghost use Rattle.vb_ends.specs.declared.role.Sort.{Sort as OneSort};
 ghost use Rattle.vb_ends.specs.Brackets.{AreBrackets};
-ghost use Rattle.vb_ends.specs.Enders.{BreaksBackwards, IsBroken};
+ghost use Rattle.vb_ends.specs.Enders.{AreOpen, BreaksBackwards, IsBroken};
+ghost use Rattle.vb_ends.specs.OpenBlocks.{open_blocks};
 ghost use Rattle.vb_ends.specs.Roles.{AreOpenBehind};
 
 /// A law for callers' proofs: where each block has an end and each end a block, the blocks stand one behind or inside the
@@ -21,4 +22,9 @@ pub fn brackets_end()
 /// It does nothing.
 pub fn open_blocks_break()
     ensures { (marks : List Mark) (s : OneSort) (ss : List OneSort) → AreOpenBehind marks (s ∷ ss) → (line : ℕ) × BreaksBackwards marks line }
+{}
+
+/// A law for callers' proofs: the list of the open blocks has those that are open, the innermost first. It does nothing.
+pub fn open_blocks_are_open()
+    ensures { (marks : List Mark) → AreOpen (open_blocks marks) marks }
 {}

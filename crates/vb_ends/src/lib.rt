@@ -16,8 +16,9 @@ mod role;
 mod roles;
 mod stack;
 
-pub use blocks::{Blocks, first_broken};
+pub use blocks::{first_broken, is_statement};
 pub use depth::first_too_deep;
-pub use laws::{blocks_nest, brackets_end, open_blocks_break};
+pub use laws::{blocks_nest, brackets_end, open_blocks_are_open, open_blocks_break};
 pub use reading::first_unended;
 pub use role::{Mark, Role, Sort};
+pub use roles::item_role;

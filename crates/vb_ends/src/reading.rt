@@ -3,13 +3,14 @@ ghost use Rattle.std.specs.Prelude.{◌≡◌, ◌<◌, List, [], ◌∷◌, dro
 ghost use Rattle.std.specs.Option.{option_copied};
 ghost use Rattle.vb_syntax.specs.declared.item.Item.{Item as OneItem};
 ghost use Rattle.vb_syntax.specs.declared.item.Row.{Row as OneRow};
-ghost use Rattle.vb_ends.specs.Enders.{BreaksBackwards, IsLeast};
+ghost use Rattle.vb_diag.specs.Broken.{IsLeastLine};
+ghost use Rattle.vb_ends.specs.Enders.{BreaksBackwards};
 ghost use Rattle.vb_ends.specs.Reading.{HasRead, next_item};
 ghost use Rattle.vb_ends.specs.Roles.{marks_of};
 
 use crate::blocks::Blocks;
 use crate::role::Role;
-use crate::roles::{item_role, keeps_in_interface};
+use crate::roles::item_role;
 use std::alloc::{AllocError, Global};
 use vb_syntax::{Item, Row};
 
@@ -17,8 +18,6 @@ use vb_syntax::{Item, Row};
 #[derive(Drop)]
 pub struct Reader {
     pub blocks: Blocks,
-    // Whether what stands behind stands directly in an interface.
-    inside: bool,
     // Whether no part of an `If` on one line stands before what stands behind.
     is_fresh: bool,
 }
@@ -29,7 +28,6 @@ impl Reader {
     {
         Reader {
             blocks: Blocks::new(alloc),
-            inside: false,
             is_fresh: true,
         }
     }
@@ -40,12 +38,11 @@ impl Reader {
     {
         let is_end = row.behind.is_end();
         let role = if self.is_fresh && is_end {
-            item_role(self.inside, &row.item, next)
+            item_role(self.blocks.in_interface(), &row.item, next)
         } else {
             Role::Stays
         };
         self.blocks.take(role, row.line)?;
-        self.inside = keeps_in_interface(&row.item, self.inside);
         self.is_fresh = is_end;
         Ok(())
     }
@@ -62,7 +59,7 @@ pub fn item_at(rows: &[Row], at: usize) -> Option<&Item>
 ///
 /// The error is want of memory.
 pub fn first_unended(alloc: Global, rows: &[Row]) -> Result<Option<u32>, AllocError>
-    ensures { IfOk result (λ first. IsLeast (λ line. BreaksBackwards (marks_of None (reverse rows.now)) line) first) }
+    ensures { IfOk result (λ first. IsLeastLine (λ line. BreaksBackwards (marks_of None (reverse rows.now)) line) first) }
 {
     let mut reader = Reader::new(alloc);
     for (at, row) in rows.iter().enumerate() {

@@ -9,14 +9,6 @@ use vb_syntax::{
     PropertyHeader, must_override,
 };
 
-fn is_property_of_interface(header: &PropertyHeader) -> bool
-    ensures { result ≡ spec.is_property_of_interface header.now }
-{
-    matches!(header.modifier, NameModifier::Plain)
-        && header.initializer.is_none()
-        && header.implements.is_empty()
-}
-
 // Whether the line is the header of a member as an interface has it: without modifiers, and implementing nothing.
 fn is_header_of_interface(line: &DeclarationLine) -> bool
     ensures { result ≡ spec.is_header_of_interface line.now }
@@ -32,7 +24,7 @@ fn is_header_of_interface(line: &DeclarationLine) -> bool
             ..
         } => modifiers.is_empty() && implements.is_empty(),
         DeclarationLine::Property(modifiers, header) => {
-            modifiers.is_empty() && is_property_of_interface(header)
+            modifiers.is_empty() && header.is_of_interface()
         }
         DeclarationLine::Event {
             modifiers,
@@ -43,31 +35,14 @@ fn is_header_of_interface(line: &DeclarationLine) -> bool
     }
 }
 
-// Whether what stands behind the item stands directly in an interface, by whether the item does.
-pub fn keeps_in_interface(item: &Option<Item>, inside: bool) -> bool
-    ensures { result ≡ spec.keeps_in_interface item.now inside }
-{
-    let Some(Item::Declares(line)) = item else {
-        return false;
-    };
-    match line {
-        DeclarationLine::Interface { .. } => true,
-        DeclarationLine::Inherits(_) => inside,
-        line => inside && is_header_of_interface(line),
-    }
-}
-
-// Whether the item is an accessor of a property, or the property's end.
+// Whether the item behind goes on with a property.
 fn goes_on_property(next: Option<&Item>) -> bool
     ensures { result ≡ spec.goes_on_property (option_copied next.entry) }
 {
-    matches!(
-        next,
-        Some(
-            Item::Declares(DeclarationLine::Get(_) | DeclarationLine::Set(_, _))
-                | Item::End(BlockWord::Property)
-        )
-    )
+    match next {
+        Some(item) => item.goes_on_property(),
+        None => false,
+    }
 }
 
 fn accessor_sort(kind: EventAccessorKind) -> Sort
@@ -131,7 +106,7 @@ fn opened(inside: bool, item: &Item, next: Option<&Item>) -> Option<Sort>
         Item::SyncLock(_) => Some(Sort::SyncLock),
         Item::With(_) => Some(Sort::With),
         Item::Using(_) => Some(Sort::Using),
-        Item::Declares(line) => opened_by(inside, line, next),
+        Item::Declares(line) => opened_by(inside, line.get(), next),
         _ => None,
     }
 }
@@ -174,6 +149,8 @@ fn ended(item: &Item) -> Option<Sort>
     }
 }
 
+/// What an item that stands alone on its row does to blocks (Visual Basic Language Specification 11.0, 7, 9 and 10): `inside` where it
+/// stands directly in an interface, with this item behind it.
 pub fn item_role(inside: bool, item: &Option<Item>, next: Option<&Item>) -> Role
     ensures { result ≡ spec.item_role inside item.now (option_copied next.entry) }
 {

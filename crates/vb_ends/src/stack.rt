@@ -5,9 +5,9 @@ ghost use Rattle.vb_ends.specs.Counts as spec;
 ghost use Rattle.vb_ends.specs.Counts.{AreCounts, holds, same_sort};
 
 use crate::role::Sort;
-use sqlite_items::Items;
 use std::alloc::{AllocError, Global};
 use std::marker::Model;
+use vb_syntax::Items;
 
 /// A block that is open.
 #[derive(Clone, Copy, Debug, PartialEq, Eq)]

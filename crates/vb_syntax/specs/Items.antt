@@ -1,8 +1,11 @@
 -- What is asked of items, of joints and of modifiers, wherever they stand.
-use Rattle.std.specs.Prelude.{Bool, true, false, List}
+use Rattle.std.specs.Prelude.{Bool, true, false, List, [], Option, Some, None}
 use Rattle.std.specs.List.{list_any}
-use Rattle.vb_syntax.specs.declared.{declaration.Modifier.Modifier, item.{Item.Item, Joint.Joint}}
+use Rattle.vb_syntax.specs.declared.{declaration.{Modifier.Modifier, ImplementedMember.ImplementedMember, NameModifier.NameModifier}, expression.Expr.Expr, item.{BlockWord.BlockWord, DeclarationLine.DeclarationLine, Item.Item, Joint.Joint, PropertyHeader.PropertyHeader}}
 use Rattle.vb_syntax.specs.declared.declaration.Modifier.TheVariants as modifier
+use Rattle.vb_syntax.specs.declared.declaration.NameModifier.TheVariants as name_modifier
+use Rattle.vb_syntax.specs.declared.item.BlockWord.TheVariants as block
+use Rattle.vb_syntax.specs.declared.item.DeclarationLine.TheVariants as line
 use Rattle.vb_syntax.specs.declared.item.Item.TheVariants as item
 use Rattle.vb_syntax.specs.declared.item.Joint.TheVariants as joint
 
@@ -25,6 +28,22 @@ is_simple (item.AddHandler x y) = true
 is_simple (item.RemoveHandler x y) = true
 is_simple (item.RaiseEvent n xs) = true
 is_simple x = false
+
+-- an accessor of a property, or the property's end (9.7)
+abbrev pub goes_on_property : Item → Bool
+goes_on_property (item.Declares (line.Get a)) = true
+goes_on_property (item.Declares (line.Set a ps)) = true
+goes_on_property (item.End block.Property) = true
+goes_on_property i = false
+
+-- behind the name and the type of a property nothing stands: no `()`, no value and no interface's member
+abbrev pub has_no_more : NameModifier → Option Expr → List ImplementedMember → Bool
+has_no_more name_modifier.Plain None [] = true
+has_no_more m i is = false
+
+-- a property as an interface has it (7.8.2)
+abbrev pub is_property_of_interface : PropertyHeader → Bool
+is_property_of_interface h = has_no_more h.modifier h.initializer h.implements
 
 -- it ends the statements of a line
 abbrev pub is_end : Joint → Bool

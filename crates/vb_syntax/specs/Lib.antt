@@ -1,3 +1,4 @@
 pub mod ContextualWords
 pub mod Items
+pub mod Literals
 pub mod Texts

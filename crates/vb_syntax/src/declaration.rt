@@ -199,13 +199,13 @@ pub enum MemberForm {
         handler: EventHandler,
         implements: Items<ImplementedMember>,
     },
-    /// An event with accessors of its own, whatever their order (9.4.1).
+    /// An event with accessors of its own, whatever their order, as far as they are written (9.4.1).
     CustomEvent {
         name: Name,
         delegate: TypeName,
-        add_handler: EventAccessor,
-        remove_handler: EventAccessor,
-        raise_event: EventAccessor,
+        add_handler: Option<EventAccessor>,
+        remove_handler: Option<EventAccessor>,
+        raise_event: Option<EventAccessor>,
     },
 }
 

@@ -13,7 +13,7 @@ use crate::statement::{
     LoopCondition, LoopControlVariable, OnErrorAction, ResumePlace, UsingResource,
 };
 use crate::types::{TypeName, TypeParameter};
-use sqlite_items::Items;
+use sqlite_items::{Boxed, Items};
 use vb_text::Name;
 
 /// What stands on a line or on a part of it: a statement without a block, or what begins, parts or ends a block
@@ -25,7 +25,7 @@ pub enum Item {
     /// `Imports` and the namespaces, each by the names between its dots (6.3.2).
     Imports(Items<Items<Name>>),
     /// The header of a type, a member or an accessor, or another line of declarations (7 and 9).
-    Declares(DeclarationLine),
+    Declares(Boxed<DeclarationLine>),
     /// `End` and the word of the block that it ends.
     End(BlockWord),
 
@@ -128,6 +128,20 @@ impl Item {
                 | Item::RaiseEvent(..)
         )
     }
+
+    /// Whether it goes on with a property: an accessor of one, or its end (Visual Basic Language Specification 11.0, 9.7).
+    pub fn goes_on_property(&self) -> bool
+        ensures { result ≡ spec.goes_on_property self.now }
+    {
+        match self {
+            Item::Declares(line) => matches!(
+                line.get(),
+                DeclarationLine::Get(_) | DeclarationLine::Set(_, _)
+            ),
+            Item::End(word) => matches!(word, BlockWord::Property),
+            _ => false,
+        }
+    }
 }
 
 /// What a line of the declarations of types and members says, but for variables and constants without modifiers
@@ -206,6 +220,18 @@ pub struct PropertyHeader {
     pub declared: TypeName,
     pub initializer: Option<Expr>,
     pub implements: Items<ImplementedMember>,
+}
+
+impl PropertyHeader {
+    /// Whether nothing stands behind its name and its type, as in an interface: no `()`, no value and no interface's member
+    /// (Visual Basic Language Specification 11.0, 7.8.2).
+    pub fn is_of_interface(&self) -> bool
+        ensures { result ≡ spec.is_property_of_interface self.now }
+    {
+        matches!(self.modifier, NameModifier::Plain)
+            && self.initializer.is_none()
+            && self.implements.is_empty()
+    }
 }
 
 /// What an accessor of an event does (Visual Basic Language Specification 11.0, 9.4.1).

@@ -33,13 +33,14 @@ pub use item::{
     BlockWord, DeclarationLine, EventAccessorKind, Item, Joint, PropertyHeader, Row, must_override,
 };
 pub use keyword::Keyword;
+pub use sqlite_items::{Boxed, Items};
 pub use statement::{
     Block, BlockClause, CaseClause, CaseItem, CatchClause, CatchVariable, CompoundOperator,
     ContinueKind, ElseIfClause, ExitKind, LocalModifier, LoopCondition, LoopControlVariable,
     LoopTest, NextClause, OnErrorAction, ResumePlace, Statement, StatementForm, UsingResource,
 };
 pub use symbol::Symbol;
-pub use tokens::{IntegerLiteral, IntegerType, Line, Lines, Token};
+pub use tokens::{IntegerLiteral, IntegerType, IntegerValue, Line, Lines, Token};
 pub use types::{
     BuiltInTypeName, PrimitiveTypeName, QualifiedTypeName, SimpleTypeName, TypeConstraint,
     TypeName, TypeParameter,

@@ -1,5 +1,6 @@
 // Tokens and logical lines.
 ghost use Rattle.std.specs.Prelude.{◌≡◌, IfOk};
+ghost use Rattle.vb_syntax.specs.Literals as spec;
 
 use crate::keyword::Keyword;
 use crate::symbol::Symbol;
@@ -18,12 +19,34 @@ pub enum IntegerType {
     ULong,
 }
 
-/// An integer literal. Its value is in the range of its type; it is below 0 only where it was written in base 16 or 8, as
-/// the bits of its type.
+/// What an integer literal stands for (Visual Basic Language Specification 11.0, 2.4.2). Its value is in the range of its type;
+/// it is below 0 only where it was written in base 16 or 8, as the bits of its type.
+#[derive(Clone, Copy, Debug, PartialEq, Eq)]
+pub struct IntegerValue {
+    pub kind: IntegerType,
+    pub value: i128,
+}
+
+/// An integer literal as it is written (Visual Basic Language Specification 11.0, 2.4.2). Its value is in the range of its
+/// type; it is below 0 only where it was written in base 16 or 8, as the bits of its type.
 #[derive(Clone, Copy, Debug, PartialEq, Eq)]
 pub struct IntegerLiteral {
     pub kind: IntegerType,
     pub value: i128,
+    /// Whether it is written as one decimal digit, without a suffix.
+    pub is_digit: bool,
+}
+
+impl IntegerLiteral {
+    /// What it stands for, however it is written.
+    pub fn integer(&self) -> IntegerValue
+        ensures { result ≡ spec.integer self.now }
+    {
+        IntegerValue {
+            kind: self.kind,
+            value: self.value,
+        }
+    }
 }
 
 /// A token (Visual Basic Language Specification 11.0, 2). It keeps what it means, from which a text of it can be written

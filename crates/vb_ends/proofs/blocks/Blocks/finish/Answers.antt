@@ -1,5 +1,6 @@
 use Rattle.std.proofs.Common.{◌≡◌, ◌∙◌, sym, ap, subst, reverse}
-use Rattle.vb_ends.specs.{Stack.{left, state_of}, Enders.{BreaksBackwards, IsLeast}}
+use Rattle.vb_ends.specs.{Stack.{left, state_of}, Enders.BreaksBackwards}
+use Rattle.vb_diag.specs.Broken.{IsLeastLine}
 use Rattle.vb_ends.proofs.Machine.{left_next, left_none, state_last}
 use Rattle.vb_ends.proofs.blocks.Blocks.finish.Goals as goal
 
@@ -12,4 +13,4 @@ pub returns : goal.returns
 returns c = λ marks t.
     let last : c.loop-block.first ≡ left (reverse c.args.self.stack) c.args.self.first =
     sym (left_none c.loop-block.stack c.loop-block.first c.in_default.ensures.0) ∙ c.loop-block.invariant in
-    subst (λ n. IsLeast (BreaksBackwards marks) n) (sym last) (state_last (state_of c.args.self) marks t)
+    subst (λ n. IsLeastLine (BreaksBackwards marks) n) (sym last) (state_last (state_of c.args.self) marks t)
