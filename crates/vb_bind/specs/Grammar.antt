@@ -1,5 +1,5 @@
 -- Which syntax trees of files are a program, and which lines have a form that none has.
-use Rattle.std.specs.Prelude.{◌≡◌, ◌⊎◌, ℕ, ◌≤◌, FitsSigned, if◌then◌else◌, nat_le, List, [], ◌∷◌, ◌++◌, length, Option, Some, None, slice_get, unwrap_or, codes}
+use Rattle.std.specs.Prelude.{◌≡◌, ◌⊎◌, ℕ, FitsSigned, if◌then◌else◌, nat_le, List, [], ◌∷◌, ◌++◌, length, Option, Some, None, slice_get, unwrap_or, codes}
 use Rattle.std.specs.Int.{w32}
 use Rattle.vb_text.specs.{Names.{IsNameOf, with_name}, declared.names.Name.Name}
 use Rattle.vb_syntax.specs.declared.tokens.IntegerType.TheVariants as kind
@@ -245,11 +245,6 @@ pub data HasUnbuiltType (known : KnownNames) (n : ℕ) (d : TypeDeclaration) : T
 abbrev pub HasUnbuiltForm : KnownNames → SourceFile → ℕ → Type 0
 HasUnbuiltForm known file n = HasOne (λ (o : OptionStatement). o.line ≡ n) file.options
     ⊎ (HasOne (IsUnbuiltImports known n) file.imports ⊎ HasOne (HasUnbuiltType known n) file.types)
-
--- the least number that is so, or that there is none
-abbrev pub IsLeast : (ℕ → Type 0) → Option ℕ → Type 0
-IsLeast Is None = (n : ℕ) → Is n → ⊥
-IsLeast Is (Some n) = Is n × ((m : ℕ) → Is m → n ≤ m)
 
 -- THE WIDEST LINE OF A FILE
 

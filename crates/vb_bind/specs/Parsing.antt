@@ -1,5 +1,5 @@
 -- Reading the parts of a program as functions.
-use Rattle.std.specs.Prelude.{ℕ, ◌+◌, ◌^◌, Bool, true, false, not, ◌&&◌, ◌==◌, nat_lt, nat_le, if◌then◌else◌, ℤ, pos, negsuc, List, [], ◌∷◌, ◌++◌, length, Option, Some, None}
+use Rattle.std.specs.Prelude.{ℕ, ◌+◌, ◌^◌, Bool, true, false, not, ◌&&◌, ◌==◌, nat_lt, if◌then◌else◌, ℤ, pos, negsuc, List, [], ◌∷◌, ◌++◌, length, Option, Some, None}
 use Rattle.std.specs.List.{list_any}
 use denote.Enum.Bare.{sameb}
 use Rattle.vb_text.specs.declared.names.Name.{Name}
@@ -352,9 +352,3 @@ is_form_at known f = false
 
 abbrev pub is_form : KnownNames → StatementForm → Bool
 is_form known f = is_form_at known (out-StatementForm f)
-
--- the earlier of two lines
-abbrev pub earlier : Option ℕ → Option ℕ → Option ℕ
-earlier None b = b
-earlier (Some n) None = Some n
-earlier (Some n) (Some m) = if nat_le n m then Some n else Some m

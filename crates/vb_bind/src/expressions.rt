@@ -6,7 +6,7 @@ ghost use Rattle.vb_bind.specs.Parsing.{named, is_name_tree, number_read, local_
 use crate::names::{is_same, local_of};
 use vb_bound::{Condition, Expr, Line, LocalId, Operand, Operator, Relation};
 use vb_syntax::{
-    BinaryOperator, Expr as SyntaxExpr, IntegerLiteral, IntegerType, RelationalOperator,
+    BinaryOperator, Expr as SyntaxExpr, IntegerType, IntegerValue, RelationalOperator,
 };
 use vb_text::Name;
 
@@ -38,7 +38,7 @@ pub fn number_of(expr: &SyntaxExpr) -> Option<i32>
 {
     match expr {
         SyntaxExpr::Integer(
-            IntegerLiteral {
+            IntegerValue {
                 kind: IntegerType::Integer,
                 value,
             },

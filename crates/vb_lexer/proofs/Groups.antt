@@ -36,7 +36,8 @@ faulty a hs (b ∷ more) chain f = split_off a hs b more chain (after_fault (las
 
 pub no_fault : (table : List (List ℕ)) (p : Part) (t : Token) → IsToken table p t → is_fault p.piece ≡ false
 no_fault table p (token.Name n) is = ap (λ q. is_fault q) is.0
-no_fault table p (token.EscapedName n) is = ap (λ q. is_fault q) is.0
+no_fault table p (token.EscapedName n) (inl is) = ap (λ q. is_fault q) is.0
+no_fault table p (token.EscapedName n) (inr is) = ap (λ q. is_fault q) is.0
 no_fault table p (token.Keyword k) is = ap (λ q. is_fault q) is
 no_fault table p (token.Integer l) is = ap (λ q. is_fault q) is
 no_fault table p (token.Text u) is = ap (λ q. is_fault q) is.0

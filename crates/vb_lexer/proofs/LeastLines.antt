@@ -1,8 +1,8 @@
 -- The least of the rules that logical lines break.
-use Rattle.std.proofs.Common.{◌≡◌, ℕ, ◌<◌, ◌≤◌, Bool, true, false, ◌&&◌, ◌||◌, ◌==◌, nat_lt, nat_le, List, [], ◌∷◌, ◌++◌, Option, None, Some, refl, sym, ◌∙◌, ◌⊎◌, inl, inr, arith, if◌then◌else◌}
-use Rattle.std.proofs.lemmas.Bool.{cases_lt}
-use Rattle.std.proofs.lemmas.Grind.{common_steps}
-use Rattle.vb_lexer.specs.{declared.{piece.Fault.Fault, reader.Broken.Broken}, Lines.{Item, LineBreaks, SomeLineBreaks, IsNotAfter, line_number, fault_rule}, Reader.{IsLeast, told_first, lesser_of}}
+use Rattle.std.proofs.Common.{◌≡◌, ℕ, List, [], ◌∷◌, ◌++◌, Option, Some, refl, sym, subst, ◌⊎◌, inl, inr}
+use Rattle.vb_diag.specs.{declared.refusal.Refusal.Refusal, Broken.{IsLeast, InFile}}
+use Rattle.vb_diag.proofs.Least.{rules_ordered, least_of_two, least_itself, least_same as same_members}
+use Rattle.vb_lexer.specs.{declared.piece.Fault.Fault, Lines.{Item, LineBreaks, SomeLineBreaks, line_number, fault_rule}, Reader.with_broken}
 
 pub some_front : (gs : List (List Item)) (g : List Item) (l r : ℕ) → SomeLineBreaks gs l r → SomeLineBreaks (gs ++ (g ∷ [])) l r
 some_front [] g l r h = absurd h
@@ -20,47 +20,19 @@ some_split (x ∷ xs) g l r (inl h) = inl (inl h)
 some_split (x ∷ xs) g l r (inr h) = elim (some_split xs g l r h) [ inl a ↦ inl (inr a) | inr b ↦ inr b ]
 
 -- the same rules
-pub least_same : (B C : ℕ → ℕ → Type 0) (best : Option Broken) → IsLeast B best → ((l r : ℕ) → B l r → C l r) → ((l r : ℕ) → C l r → B l r) → IsLeast C best
-least_same B C None least there back = λ l r h. least l r (back l r h)
-least_same B C (Some b) least there back = (there b.line (fault_rule b.fault) least.0, λ l r h. least.1 l r (back l r h))
+pub least_same : (file : ℕ) (B C : ℕ → ℕ → Type 0) (best : Option Refusal) → IsLeast (InFile file B) best → ((l r : ℕ) → B l r → C l r) → ((l r : ℕ) → C l r → B l r) → IsLeast (InFile file C) best
+least_same file B C best least there back =
+    same_members rules_ordered (InFile file B) (InFile file C) best least (λ x h. (h.0, there x.line x.rule h.1)) (λ x h. (h.0, back x.line x.rule h.1))
 
-first_by : (a l r s : ℕ) → (nat_lt a l || (a == l && nat_le r s)) ≡ true → (a < l) ⊎ ((a ≡ l) × (r ≤ s))
-first_by a l r s e = elim (cases_lt a l) [
-  | inl below ↦ inl below
-  | inr past ↦ let same : a ≡ l = grind (arith, common_steps) in let within : r ≤ s = grind (arith, common_steps) in inr (same, within)
-]
-
-last_by : (a l r s : ℕ) → (nat_lt a l || (a == l && nat_le r s)) ≡ false → (l < a) ⊎ ((l ≡ a) × (s ≤ r))
-last_by a l r s e = elim (cases_lt l a) [
-  | inl below ↦ inl below
-  | inr past ↦ let same : l ≡ a = grind (arith, common_steps) in let within : s ≤ r = grind (arith, common_steps) in inr (same, within)
-]
-
-pub told_is : (k : Broken) (l : ℕ) (f : Fault) → told_first k l f ≡ true → IsNotAfter k.line (fault_rule k.fault) l (fault_rule f)
-told_is k l f e = first_by k.line l (fault_rule k.fault) (fault_rule f) e
-
-pub told_not : (k : Broken) (l : ℕ) (f : Fault) → told_first k l f ≡ false → IsNotAfter l (fault_rule f) k.line (fault_rule k.fault)
-told_not k l f e = last_by k.line l (fault_rule k.fault) (fault_rule f) e
-
-pub after_trans : (a b c d e f : ℕ) → IsNotAfter a b c d → IsNotAfter c d e f → IsNotAfter a b e f
-after_trans a b c d e f (inl h) (inl k) = inl (omega (arith, h, k))
-after_trans a b c d e f (inl h) (inr k) = inl (omega (arith, h, k.0))
-after_trans a b c d e f (inr h) (inl k) = inl (omega (arith, h.0, k))
-after_trans a b c d e f (inr h) (inr k) = inr (h.0 ∙ k.0, omega (arith, h.1, k.1))
-
-pub after_self : (a b c d : ℕ) → c ≡ a → d ≡ b → IsNotAfter a b c d
-after_self a b c d e f = inr (sym e, omega (arith, f))
+refusal_is : (file line rule : ℕ) (x : Refusal) → x.file ≡ file → x.line ≡ line → x.rule ≡ rule → Some (record { file = file; line = line; rule = rule }) ≡ Some x
+refusal_is file line rule x f l r = λ i. Some (record { file = sym f i; line = sym l i; rule = sym r i })
 
 -- one rule more
-least_by : (B C : ℕ → ℕ → Type 0) (k : Broken) (line : ℕ) (f : Fault) (b : Bool) → told_first k line f ≡ b → IsLeast B (Some k) → ((l r : ℕ) → B l r → C l r) → C line (fault_rule f) → ((l r : ℕ) → C l r → B l r ⊎ ((l ≡ line) × (r ≡ fault_rule f))) → IsLeast C (if b then Some k else Some (record { line = line; fault = f }))
-least_by B C k line f true e least there here back = (
-  there k.line (fault_rule k.fault) least.0,
-  λ l r h. elim (back l r h) [ inl a ↦ least.1 l r a | inr s ↦ after_trans _ _ line (fault_rule f) _ _ (told_is k line f e) (after_self line (fault_rule f) l r s.0 s.1) ],
-)
-least_by B C k line f false e least there here back =
-    (here, λ l r h. elim (back l r h) [ inl a ↦ after_trans _ _ k.line (fault_rule k.fault) _ _ (told_not k line f e) (least.1 l r a) | inr s ↦ after_self line (fault_rule f) l r s.0 s.1 ])
-
-pub least_more : (B C : ℕ → ℕ → Type 0) (best : Option Broken) (line : ℕ) (f : Fault) → IsLeast B best → ((l r : ℕ) → B l r → C l r) → C line (fault_rule f) → ((l r : ℕ) → C l r → B l r ⊎ ((l ≡ line) × (r ≡ fault_rule f))) → IsLeast C (lesser_of best line f)
-least_more B C None line f least there here back =
-    (here, λ l r h. elim (back l r h) [ inl a ↦ absurd (least l r a) | inr s ↦ after_self line (fault_rule f) l r s.0 s.1 ])
-least_more B C (Some k) line f least there here back = least_by B C k line f (told_first k line f) refl least there here back
+pub least_more : (file : ℕ) (B C : ℕ → ℕ → Type 0) (best : Option Refusal) (line : ℕ) (f : Fault) → IsLeast (InFile file B) best → ((l r : ℕ) → B l r → C l r) → C line (fault_rule f)
+    → ((l r : ℕ) → C l r → B l r ⊎ ((l ≡ line) × (r ≡ fault_rule f))) → IsLeast (InFile file C) (with_broken best file line f)
+least_more file B C best line f least there here back =
+    let new : Refusal = record { file = file; line = line; rule = fault_rule f } in
+    same_members rules_ordered (λ x. InFile file B x ⊎ (Some new ≡ Some x)) (InFile file C) (with_broken best file line f)
+    (least_of_two rules_ordered (InFile file B) (λ x. Some new ≡ Some x) best (Some new) least (least_itself rules_ordered (Some new)))
+    (λ x u. elim u [ inl h ↦ (h.0, there x.line x.rule h.1) | inr e ↦ let same : new ≡ x = cc in subst (λ y. InFile file C y) same (refl, here) ])
+    (λ x h. elim (back x.line x.rule h.1) [ inl b ↦ inl (h.0, b) | inr s ↦ inr (refusal_is file line (fault_rule f) x h.0 s.0 s.1) ])

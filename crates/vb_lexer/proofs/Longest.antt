@@ -1,15 +1,15 @@
 -- A piece that is a token is the longest token that stands at its place.
-use Rattle.std.proofs.Common.{◌≡◌, ℕ, zero, suc, ◌+◌, ◌<◌, ◌≤◌, Bool, true, false, not, ◌&&◌, ◌==◌, nat_lt, slice_index, List, [], ◌∷◌, ◌++◌, length, take, drop, Option, None, Some, refl, sym, ap, ap₂, ◌∙◌, subst, arith, if◌then◌else◌, append_assoc, length-append, length-take-le, take-append-drop, ltb-false}
+use Rattle.std.proofs.Common.{◌≡◌, ◌↔◌, pos, ℕ, zero, suc, ◌+◌, ◌<◌, ◌≤◌, Bool, true, false, not, ◌&&◌, ◌==◌, nat_lt, slice_index, List, [], ◌∷◌, ◌++◌, length, take, drop, Option, None, Some, refl, sym, ap, ap₂, ◌∙◌, subst, arith, if◌then◌else◌, append_assoc, length-append, length-take-le, take-append-drop, ltb-false}
 use Rattle.std.proofs.Math.Seq.{take-add, drop-append_seam, drop-append-add}
-use Rattle.std.proofs.lemmas.Bool.{and_parts, both_ways, eqb-true, eqb-false, leb-true, ltb-true, le-leb}
+use Rattle.std.proofs.lemmas.Bool.{and_parts, both_ways, eq-eqb, eqb-true, eqb-false, leb-true, ltb-true, le-leb}
 use Rattle.std.proofs.lemmas.List.{drop-drop}
 use Rattle.std.specs.Prelude.{codes}
 use Rattle.std.specs.List.{list_all}
 use Rattle.std.specs.Char.{to_ascii_lowercase}
 use Rattle.vb_text.specs.Units.{most_units}
-use Rattle.vb_syntax.specs.{Texts.symbol_text, declared.{keyword.Keyword.Keyword, symbol.Symbol.Symbol, tokens.{IntegerType.IntegerType, IntegerLiteral.IntegerLiteral}}}
+use Rattle.vb_syntax.specs.{Texts.symbol_text, declared.{keyword.Keyword.Keyword, symbol.Symbol.Symbol, tokens.{IntegerType.{IntegerType, TheVariants.{Integer, Long}}, IntegerLiteral.IntegerLiteral}}}
 use Rattle.vb_syntax.specs.declared.symbol.Symbol.TheVariants as sign
-use Rattle.vb_lexer.specs.{declared.{piece.{Piece.Piece, Found.Found, Before.Before, Base.{Base, TheVariants.{Decimal, Hexadecimal, Octal}}}, characters.Class.Class}, Characters.{Character, is_char, is_name_part, is_readable, run_len, class_of, is_remark, is_space}, Tables.{keywords, symbols}, Tokens.{char_at, found, fault, longest_name, name_len, lowered, is_rem, keyword_in, keyword_or_name, word_of, connected_of, begins_name, bracketed_of, is_digit, digits_len, base_number, value_from, literal_of, suffixes, suffix_in, suffix_type, suffix_len, starts, integer_or_fault, number_of, number_at, symbol_in, symbol_or_fault, symbol_at, ampersand_at, content_len, char_literal, text_literal, quoted_or_fault, quoted_at, units_of}, Pieces.{Part, Falls, ends_line, is_rest, behind_space, is_word_at, space_of, region_start, region_named, region_start_of, region_end_of, region_at, piece_of, piece_at}, Lines.is_token, Longest.{AreWord, IsIdentifier, IsReserved, IsInteger, IsQuoted, IsSuffix, Spells, IsLongest, base_mark}}
+use Rattle.vb_lexer.specs.{declared.{piece.{Piece.Piece, Found.Found, Before.Before, Base.{Base, TheVariants.{Decimal, Hexadecimal, Octal}}}, characters.Class.Class}, Characters.{Character, is_char, is_name_part, is_readable, run_len, class_of, is_remark, is_space}, Tables.{keywords, symbols}, Tokens.{char_at, found, fault, longest_name, name_len, lowered, is_rem, keyword_in, keyword_or_name, word_of, connected_of, begins_name, bracketed_of, is_digit, digits_len, base_number, value_from, literal, literal_of, decimal_bound, bits_bound, bits_value, bits_literal, suffixes, suffix_in, suffix_type, suffix_len, starts, integer_or_fault, number_of, number_at, symbol_in, symbol_or_fault, symbol_at, ampersand_at, content_len, char_literal, text_literal, quoted_or_fault, quoted_at, units_of}, Pieces.{Part, Falls, ends_line, is_rest, behind_space, is_word_at, space_of, region_start, region_named, region_start_of, region_end_of, region_at, piece_of, piece_at}, Lines.is_token, Longest.{AreWord, IsIdentifier, IsReserved, IsOneDigit, IsInteger, IsQuoted, IsSuffix, Spells, IsLongest, base_mark}}
 use Rattle.vb_lexer.specs.declared.piece.Piece.TheVariants as piece
 use Rattle.vb_lexer.specs.declared.piece.Fault.TheVariants as broken
 use Rattle.vb_lexer.specs.declared.characters.Class.TheVariants as class
@@ -192,8 +192,49 @@ pub number_starts : (text front back : List Character) (l : IntegerLiteral) (s :
 number_starts text front back l s e =
     ap (λ t. starts (base_mark s.base) t) (number_text_is text front back l s e) ∙ word_starts (base_mark s.base) s.mark (s.digits ++ (s.suffix ++ back)) s.marked
 
+digit_if : (b : Bool) (x y : IntegerLiteral) (rest : Option IntegerLiteral) (d : Bool) → x.is_digit ≡ d → (rest ≡ Some y → y.is_digit ≡ d) → (if b then Some x else rest) ≡ Some y → y.is_digit ≡ d
+digit_if true x y rest d e f is = cc
+digit_if false x y rest d e f is = f is
+
+-- whether a literal is written as one decimal digit
+abbrev is_one : Base → Option IntegerType → ℕ → Bool
+is_one Decimal None n = n == 1
+is_one _ _ n = false
+
+bits_digit : (kind : Option IntegerType) (v : ℕ) (l : IntegerLiteral) → bits_literal kind v ≡ Some l → l.is_digit ≡ false
+bits_digit (Some t) v l = digit_if (nat_lt v (bits_bound t)) (literal t (bits_value t v) false) l None false refl (λ e. cc)
+bits_digit None v l =
+    digit_if (nat_lt v (bits_bound Integer)) (literal Integer (bits_value Integer v) false) l _ false refl
+    (digit_if (nat_lt v (bits_bound Long)) (literal Long (bits_value Long v) false) l None false refl (λ e. cc))
+
+digit_is : (base : Base) (kind : Option IntegerType) (n v : ℕ) (l : IntegerLiteral) → literal_of base kind n v ≡ Some l → l.is_digit ≡ is_one base kind n
+unfolding literal_of
+digit_is Decimal (Some t) n v l = digit_if (nat_lt v (decimal_bound t)) (literal t (pos v) false) l None false refl (λ e. cc)
+digit_is Decimal None n v l =
+    digit_if (nat_lt v (decimal_bound Integer)) (literal Integer (pos v) (n == 1)) l _ (n == 1) refl
+    (digit_if (nat_lt v (decimal_bound Long)) (literal Long (pos v) (n == 1)) l None (n == 1) refl (λ e. cc))
+digit_is Hexadecimal kind n v l = bits_digit kind v l
+digit_is Octal kind n v l = bits_digit kind v l
+
+one_is : (base : Base) (kind : Option IntegerType) (n : ℕ) → is_one base kind n ≡ true → (base ≡ Decimal) × (kind ≡ None) × (n ≡ 1)
+one_is Decimal None n e = (refl, refl, eqb-true n 1 e)
+one_is Decimal (Some t) n e = cc
+one_is Hexadecimal kind n e = cc
+one_is Octal kind n e = cc
+
+is_one_of : (base : Base) (kind : Option IntegerType) (n : ℕ) → (base ≡ Decimal) × (kind ≡ None) × (n ≡ 1) → is_one base kind n ≡ true
+is_one_of Decimal None n e = eq-eqb n 1 e.2
+is_one_of Decimal (Some t) n e = cc
+is_one_of Hexadecimal kind n e = cc
+is_one_of Octal kind n e = cc
+
+one_digit : (base : Base) (kind : Option IntegerType) (n v : ℕ) (digits : List Character) (l : IntegerLiteral) → length digits ≡ n → literal_of base kind n v ≡ Some l → ((l.is_digit ≡ true) ↔ IsOneDigit base kind digits)
+one_digit base kind n v digits l few is =
+    let same = digit_is base kind n v l is in
+    (λ e. let one = one_is base kind n (sym same ∙ e) in (one.0, one.1, few ∙ one.2), λ one. same ∙ is_one_of base kind n (one.0, one.1, sym few ∙ one.2))
+
 -- the number of the base stands there
-number_spelled : (base : Base) (m : ℕ) (text : List Character) (l : IntegerLiteral) → AreWord (base_mark base) (take m text) → (digits_len base m text ≡ 0 → ⊥) → literal_of base (suffix_type (suffix_in suffixes (drop (m + digits_len base m text) text))) (value_from (base_number base) 0 (take (digits_len base m text) (drop m text))) ≡ Some l → IsInteger l (take (m + digits_len base m text + suffix_len (suffix_in suffixes (drop (m + digits_len base m text) text))) text)
+number_spelled : (base : Base) (m : ℕ) (text : List Character) (l : IntegerLiteral) → AreWord (base_mark base) (take m text) → (digits_len base m text ≡ 0 → ⊥) → literal_of base (suffix_type (suffix_in suffixes (drop (m + digits_len base m text) text))) (digits_len base m text) (value_from (base_number base) 0 (take (digits_len base m text) (drop m text))) ≡ Some l → IsInteger l (take (m + digits_len base m text + suffix_len (suffix_in suffixes (drop (m + digits_len base m text) text))) text)
 number_spelled base m text l marked some value =
     let n = digits_len base m text in
     let after = drop (m + n) text in
@@ -209,7 +250,8 @@ number_spelled base m text l marked some value =
       some = omega (arith, few, some);
       are_digits = run_passes (is_digit base) (drop m text);
       suffixed = suffix_at_front after;
-      value = value;
+      value = ap (λ k. literal_of base (suffix_type (suffix_in suffixes after)) k (value_from (base_number base) 0 (take n (drop m text)))) few ∙ value;
+      digit = one_digit base (suffix_type (suffix_in suffixes after)) n (value_from (base_number base) 0 (take n (drop m text))) (take n (drop m text)) l few value;
     }
 
 integer_token : (o : Option IntegerLiteral) (dot : Bool) (text : List Character) (n : ℕ) → ((l : IntegerLiteral) → o ≡ Some l → IsInteger l (take n text)) → NoLonger dot text n → IfToken dot text (integer_or_fault o n text)
@@ -222,7 +264,7 @@ number_of_token dot base m text marked longest =
     token_if (digits_len base m text == 0) dot text (fault broken.NumberLiteral text) _ (λ e t. cc)
     (λ e.
     let some = eqb-false (digits_len base m text) 0 e in
-    integer_token (literal_of base (suffix_type (suffix_in suffixes (drop (m + digits_len base m text) text))) (value_from (base_number base) 0 (take (digits_len base m text) (drop m text)))) dot text _ (λ l v. number_spelled base m text l marked some v) (longest some))
+    integer_token (literal_of base (suffix_type (suffix_in suffixes (drop (m + digits_len base m text) text))) (digits_len base m text) (value_from (base_number base) 0 (take (digits_len base m text) (drop m text)))) dot text _ (λ l v. number_spelled base m text l marked some v) (longest some))
 
 is_decimal : (base : Base) → base_class base ≡ class.Digit → base ≡ Decimal
 is_decimal Decimal e = refl

@@ -1,6 +1,7 @@
 -- Lines that begin and end regions.
 use Rattle.std.proofs.Common.{◌≡◌, ◌⊎◌, inl, inr, ℕ, zero, suc, ◌+◌, ◌-◌, ◌^◌, min, ◌<◌, ◌≤◌, Bool, true, false, List, [], ◌∷◌, ◌++◌, Option, None, Some, refl, ap, sym, ◌∙◌, subst, arith, append_assoc, if◌then◌else◌}
-use Rattle.vb_lexer.specs.{Lines.{begun, ended, IsUnclosed, IsUnopened, RegionBreaks}, declared.regions.Regions.Regions, Regions.{Tracks, AreBefore, IsFirstBreak, IsClosed, IsOpen, IsBalanced, IsState}}
+use Rattle.vb_diag.specs.Broken.{IsLeastLine}
+use Rattle.vb_lexer.specs.{Lines.{begun, ended, IsUnclosed, IsUnopened, RegionBreaks}, declared.regions.Regions.Regions, Regions.{Tracks, AreBefore, IsClosed, IsOpen, IsBalanced, IsState}}
 
 count_yes : (t : Bool) (x y z : ℕ) → x ≡ y + z → (if t then x + 1 else x) ≡ (if t then y + 1 else y) + z
 count_yes true x y z e = omega arith
@@ -348,34 +349,34 @@ tracks_kept marks r n first none is t before = record {
 
 -- THE FIRST LINE THAT BREAKS THE RULE
 
-unopened_breaks : (marks : List (ℕ × Bool)) (d outer first : ℕ) (unopened : Option ℕ) → unopened ≡ Some first → IsState marks d outer unopened → IsFirstBreak marks (Some first)
+unopened_breaks : (marks : List (ℕ × Bool)) (d outer first : ℕ) (unopened : Option ℕ) → unopened ≡ Some first → IsState marks d outer unopened → IsLeastLine (RegionBreaks marks) (Some first)
 unopened_breaks marks d outer first None is s = absurd (cc)
 unopened_breaks marks d outer first (Some k) is s =
-    let same : k ≡ first = cc in subst (λ l. IsFirstBreak marks (Some l)) same (inr s.0, s.1)
+    let same : k ≡ first = cc in subst (λ l. IsLeastLine (RegionBreaks marks) (Some l)) same (inr s.0, s.1)
 
-pub first_unopened : (marks : List (ℕ × Bool)) (r : Regions) (first : ℕ) → r.unopened ≡ Some first → Tracks r marks → IsFirstBreak marks (Some first)
+pub first_unopened : (marks : List (ℕ × Bool)) (r : Regions) (first : ℕ) → r.unopened ≡ Some first → Tracks r marks → IsLeastLine (RegionBreaks marks) (Some first)
 first_unopened marks r first is t = unopened_breaks marks r.depth r.outer first r.unopened is t.state
 
 open_first : (marks : List (ℕ × Bool)) (d outer line : ℕ) → IsBalanced marks d → IsOpen marks outer → RegionBreaks marks line → outer ≤ line
 open_first marks d outer line b o (inl u) = o.first line u
 open_first marks d outer line b o (inr u) = absurd (b.no_unopened line u)
 
-open_breaks : (marks : List (ℕ × Bool)) (d outer : ℕ) (unopened : Option ℕ) → unopened ≡ None → 0 < d → IsState marks d outer unopened → IsFirstBreak marks (Some outer)
+open_breaks : (marks : List (ℕ × Bool)) (d outer : ℕ) (unopened : Option ℕ) → unopened ≡ None → 0 < d → IsState marks d outer unopened → IsLeastLine (RegionBreaks marks) (Some outer)
 open_breaks marks d outer (Some k) empty some s = absurd (cc)
 open_breaks marks zero outer None empty some s = absurd (omega arith)
 open_breaks marks (suc d) outer None empty some s = (inl s.1.unclosed, λ line breaks. open_first marks (suc d) outer line s.0 s.1 breaks)
 
-pub first_open : (marks : List (ℕ × Bool)) (r : Regions) → r.unopened ≡ None → 0 < r.depth → Tracks r marks → IsFirstBreak marks (Some r.outer)
+pub first_open : (marks : List (ℕ × Bool)) (r : Regions) → r.unopened ≡ None → 0 < r.depth → Tracks r marks → IsLeastLine (RegionBreaks marks) (Some r.outer)
 first_open marks r empty some t = open_breaks marks r.depth r.outer r.unopened empty some t.state
 
 none_breaks : (marks : List (ℕ × Bool)) (d line : ℕ) → IsBalanced marks d → IsClosed marks → RegionBreaks marks line → ⊥
 none_breaks marks d line b closed (inl u) = closed.no_unclosed line u
 none_breaks marks d line b closed (inr u) = b.no_unopened line u
 
-closed_breaks : (marks : List (ℕ × Bool)) (d outer : ℕ) (unopened : Option ℕ) → unopened ≡ None → d ≡ 0 → IsState marks d outer unopened → IsFirstBreak marks None
+closed_breaks : (marks : List (ℕ × Bool)) (d outer : ℕ) (unopened : Option ℕ) → unopened ≡ None → d ≡ 0 → IsState marks d outer unopened → IsLeastLine (RegionBreaks marks) None
 closed_breaks marks d outer (Some k) empty none s = absurd (cc)
 closed_breaks marks (suc d) outer None empty none s = absurd (omega arith)
 closed_breaks marks zero outer None empty none s = λ line breaks. none_breaks marks 0 line s.0 s.1 breaks
 
-pub first_none : (marks : List (ℕ × Bool)) (r : Regions) → r.unopened ≡ None → r.depth ≡ 0 → Tracks r marks → IsFirstBreak marks None
+pub first_none : (marks : List (ℕ × Bool)) (r : Regions) → r.unopened ≡ None → r.depth ≡ 0 → Tracks r marks → IsLeastLine (RegionBreaks marks) None
 first_none marks r empty none t = closed_breaks marks r.depth r.outer r.unopened empty none t.state

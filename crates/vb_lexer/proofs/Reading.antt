@@ -1,9 +1,10 @@
 -- A reader keeps what it has read.
 use Rattle.std.proofs.Common.{◌≡◌, ℕ, ◌<◌, ◌≤◌, Bool, true, false, ◌&&◌, ◌||◌, nat_lt, List, [], ◌∷◌, ◌++◌, length, Option, None, Some, refl, ap, sym, ◌∙◌, subst, append_assoc, append-nil, ◌⊎◌, inl, inr, arith, if◌then◌else◌, not}
 use Rattle.std.proofs.lemmas.Grind.{common_steps}
+use Rattle.vb_diag.specs.{declared.refusal.Refusal.Refusal, Broken.{IsLeast, InFile}}
 use Rattle.vb_syntax.specs.declared.tokens.{Token.Token, Line.Line}
 use Rattle.vb_lexer.specs.declared.piece.Piece.TheVariants as piece
-use Rattle.vb_lexer.specs.{declared.{piece.Fault.{Fault, TheVariants.LongLine}, reader.{Reader.Reader, Broken.Broken}}, Lines.{Item, is_fault, goes_on, closes, joined, grouped, IsToken, AreTokens, AreLines, HasFault, SomeLineBreaks, line_number, fault_rule, most_tokens}, Reader.{Chain, last_of, IsHand, IsLeast, Reads, told_first, lesser_of, closed_line, closed_least, parts_lines}}
+use Rattle.vb_lexer.specs.{declared.{piece.Fault.{Fault, TheVariants.LongLine}, reader.Reader.Reader}, Lines.{Item, is_fault, goes_on, closes, joined, grouped, IsToken, AreTokens, AreLines, HasFault, SomeLineBreaks, line_number, fault_rule, most_tokens}, Reader.{Chain, last_of, IsHand, Reads, with_broken, closed_line, closed_least, parts_lines}}
 use Rattle.vb_lexer.proofs.{Groups.{split_off, one_line, chain_more, last_more, faulty, no_fault, tokens_more, no_tokens, tokens_counted, count_fault, tokens_sound, fault_last, fault_only}, LeastLines.{some_front, some_last, some_split, least_same, least_more}}
 
 lines_more : (table : List (List ℕ)) (file : ℕ) (gs : List (List Item)) (ls : List Line) (g : List Item) (l : Line) → AreLines table file gs ls → (l.file ≡ file) × (l.number ≡ line_number g) × AreTokens table g l.tokens → AreLines table file (gs ++ (g ∷ [])) (ls ++ (l ∷ []))
@@ -12,17 +13,17 @@ lines_more table file [] (x ∷ xs) g l are here = absurd are
 lines_more table file (h ∷ hs) [] g l are here = absurd are
 lines_more table file (h ∷ hs) (x ∷ xs) g l are here = (are.0, lines_more table file hs xs g l are.1 here)
 
-some_by : (b : Bool) (x y : Broken) → (if b then Some x else Some y) ≡ None → ⊥
-some_by true x y e = cc
-some_by false x y e = cc
+some_broken : (k : Option Refusal) (file l : ℕ) (f : Fault) → with_broken k file l f ≡ None → ⊥
+some_broken None file l f e = cc
+some_broken (Some k) file l f e = cc
 
-some_lesser : (k : Option Broken) (l : ℕ) (f : Fault) → lesser_of k l f ≡ None → ⊥
-some_lesser None l f e = cc
-some_lesser (Some k) l f e = some_by (told_first k l f) k (record { line = l; fault = f }) e
+some_if : (long : Bool) (k : Option Refusal) (file l : ℕ) (f g : Fault) → (if long then with_broken (with_broken k file l f) file l g else with_broken k file l f) ≡ None → ⊥
+some_if true k file l f g e = some_broken (with_broken k file l f) file l g e
+some_if false k file l f g e = some_broken k file l f e
 
-some_if : (long : Bool) (k : Option Broken) (l : ℕ) (f g : Fault) → (if long then lesser_of (lesser_of k l f) l g else lesser_of k l f) ≡ None → ⊥
-some_if true k l f g e = some_lesser (lesser_of k l f) l g e
-some_if false k l f g e = some_lesser k l f e
+-- the same least of the same file
+least_moved : (B : ℕ → ℕ → Type 0) (f g : ℕ) (a b : Option Refusal) → g ≡ f → b ≡ a → IsLeast (InFile f B) a → IsLeast (InFile g B) b
+least_moved B f g a b files same least = subst (λ k. IsLeast (InFile k B) b) (sym files) (subst (λ k. IsLeast (InFile f B) k) (sym same) least)
 
 below : (a b : ℕ) → nat_lt a b ≡ true → a < b
 below a b e = grind (arith, common_steps)
@@ -33,27 +34,27 @@ not_below a b e = grind (arith, common_steps)
 -- A LINE THAT ENDS WITHOUT A FAULT
 
 -- its lines, where nothing is broken
-closed_lines : (table : List (List ℕ)) (file start : ℕ) (whole : List (List Item)) (ls : List Line) (g : List Item) (ts : List Token) (least : Option Broken) (long : Bool)
+closed_lines : (table : List (List ℕ)) (file start : ℕ) (whole : List (List Item)) (ls : List Line) (g : List Item) (ts : List Token) (least : Option Refusal) (long : Bool)
     → nat_lt most_tokens (length ts) ≡ long → start ≡ line_number g → 0 < length ts → AreTokens table g ts → (least ≡ None → AreLines table file whole ls)
-    → (if long then lesser_of least start LongLine else least) ≡ None → AreLines table file (whole ++ (g ∷ [])) (ls ++ closed_line file start ts)
+    → (if long then with_broken least file start LongLine else least) ≡ None → AreLines table file (whole ++ (g ∷ [])) (ls ++ closed_line file start ts)
 closed_lines table file start whole ls g [] least long was number some are lines none = absurd (omega (arith, some))
 closed_lines table file start whole ls g (t ∷ ts) None true was number some are lines none = cc
-closed_lines table file start whole ls g (t ∷ ts) (Some k) true was number some are lines none = absurd (some_lesser (Some k) start LongLine none)
+closed_lines table file start whole ls g (t ∷ ts) (Some k) true was number some are lines none = absurd (some_broken (Some k) file start LongLine none)
 closed_lines table file start whole ls g (t ∷ ts) least false was number some are lines none =
     rw was (lines_more table file whole ls g (record { file = file; number = start; tokens = t ∷ ts }) (lines none) (refl, number, are))
 
-closed_breaks : (table : List (List ℕ)) (start : ℕ) (whole : List (List Item)) (g : List Item) (ts : List Token) (least : Option Broken) (long : Bool)
-    → nat_lt most_tokens (length ts) ≡ long → start ≡ line_number g → AreTokens table g ts → IsLeast (SomeLineBreaks whole) least
-    → IsLeast (SomeLineBreaks (whole ++ (g ∷ []))) (if long then lesser_of least start LongLine else least)
-closed_breaks table start whole g ts least true was number are is =
-    least_more (SomeLineBreaks whole) (SomeLineBreaks (whole ++ (g ∷ []))) least start LongLine is (λ l r h. some_front whole g l r h)
+closed_breaks : (table : List (List ℕ)) (file start : ℕ) (whole : List (List Item)) (g : List Item) (ts : List Token) (least : Option Refusal) (long : Bool)
+    → nat_lt most_tokens (length ts) ≡ long → start ≡ line_number g → AreTokens table g ts → IsLeast (InFile file (SomeLineBreaks whole)) least
+    → IsLeast (InFile file (SomeLineBreaks (whole ++ (g ∷ [])))) (if long then with_broken least file start LongLine else least)
+closed_breaks table file start whole g ts least true was number are is =
+    least_more file (SomeLineBreaks whole) (SomeLineBreaks (whole ++ (g ∷ []))) least start LongLine is (λ l r h. some_front whole g l r h)
     (some_last whole g start 7 (sym number) (inr (refl, omega (arith, below most_tokens (length ts) was, tokens_counted table g ts are))))
     (λ l r h. elim (some_split whole g l r h) [
       | inl a ↦ inl a
       | inr b ↦ elim b.1 [ inl has ↦ absurd (tokens_sound table g ts r are has) | inr seven ↦ inr (sym b.0 ∙ sym number, seven.0) ]
     ])
-closed_breaks table start whole g ts least false was number are is =
-    least_same (SomeLineBreaks whole) (SomeLineBreaks (whole ++ (g ∷ []))) least is (λ l r h. some_front whole g l r h)
+closed_breaks table file start whole g ts least false was number are is =
+    least_same file (SomeLineBreaks whole) (SomeLineBreaks (whole ++ (g ∷ []))) least is (λ l r h. some_front whole g l r h)
     (λ l r h. elim (some_split whole g l r h) [
       | inl a ↦ a
       | inr b ↦ elim b.1 [ inl has ↦ absurd (tokens_sound table g ts r are has) | inr seven ↦ absurd (omega (arith, seven.1, not_below most_tokens (length ts) was, tokens_counted table g ts are)) ]
@@ -81,23 +82,23 @@ half_back table whole start g x f ts number e are l r h = elim (some_split whole
   ]
 ]
 
-faulty_by : (table : List (List ℕ)) (start : ℕ) (whole : List (List Item)) (g : List Item) (x : Item) (f : Fault) (ts : List Token) (best : Option Broken) (long : Bool)
-    → nat_lt most_tokens (length ts) ≡ long → start ≡ line_number (g ++ (x ∷ [])) → x.part.piece ≡ piece.Fault f → AreTokens table g ts → IsLeast (Half whole start f) best
-    → IsLeast (SomeLineBreaks (whole ++ ((g ++ (x ∷ [])) ∷ []))) (if long then lesser_of best start LongLine else best)
-faulty_by table start whole g x f ts best true was number e are half =
-    least_more (Half whole start f) (SomeLineBreaks (whole ++ ((g ++ (x ∷ [])) ∷ []))) best start LongLine half (half_there whole start g x f number e)
+faulty_by : (table : List (List ℕ)) (file start : ℕ) (whole : List (List Item)) (g : List Item) (x : Item) (f : Fault) (ts : List Token) (best : Option Refusal) (long : Bool)
+    → nat_lt most_tokens (length ts) ≡ long → start ≡ line_number (g ++ (x ∷ [])) → x.part.piece ≡ piece.Fault f → AreTokens table g ts → IsLeast (InFile file (Half whole start f)) best
+    → IsLeast (InFile file (SomeLineBreaks (whole ++ ((g ++ (x ∷ [])) ∷ [])))) (if long then with_broken best file start LongLine else best)
+faulty_by table file start whole g x f ts best true was number e are half =
+    least_more file (Half whole start f) (SomeLineBreaks (whole ++ ((g ++ (x ∷ [])) ∷ []))) best start LongLine half (half_there whole start g x f number e)
     (some_last whole (g ++ (x ∷ [])) start 7 (sym number) (inr (refl, omega (arith, below most_tokens (length ts) was, count_fault g x (ap (λ q. is_fault q) e), tokens_counted table g ts are))))
     (λ l r h. elim (half_back table whole start g x f ts number e are l r h) [ inl a ↦ inl a | inr b ↦ inr (b.0, b.1) ])
-faulty_by table start whole g x f ts best false was number e are half =
-    least_same (Half whole start f) (SomeLineBreaks (whole ++ ((g ++ (x ∷ [])) ∷ []))) best half (half_there whole start g x f number e)
+faulty_by table file start whole g x f ts best false was number e are half =
+    least_same file (Half whole start f) (SomeLineBreaks (whole ++ ((g ++ (x ∷ [])) ∷ []))) best half (half_there whole start g x f number e)
     (λ l r h. elim (half_back table whole start g x f ts number e are l r h) [ inl a ↦ a | inr b ↦ absurd (omega (arith, b.2, not_below most_tokens (length ts) was)) ])
 
-faulty_breaks : (table : List (List ℕ)) (start : ℕ) (whole : List (List Item)) (g : List Item) (x : Item) (f : Fault) (ts : List Token) (least : Option Broken)
-    → start ≡ line_number (g ++ (x ∷ [])) → x.part.piece ≡ piece.Fault f → AreTokens table g ts → IsLeast (SomeLineBreaks whole) least
-    → IsLeast (SomeLineBreaks (whole ++ ((g ++ (x ∷ [])) ∷ []))) (closed_least (lesser_of least start f) start ts)
-faulty_breaks table start whole g x f ts least number e are is =
-    faulty_by table start whole g x f ts (lesser_of least start f) (nat_lt most_tokens (length ts)) refl number e are
-    (least_more (SomeLineBreaks whole) (Half whole start f) least start f is (λ l r h. inl h) (inr (refl, refl)) (λ l r h. h))
+faulty_breaks : (table : List (List ℕ)) (file start : ℕ) (whole : List (List Item)) (g : List Item) (x : Item) (f : Fault) (ts : List Token) (least : Option Refusal)
+    → start ≡ line_number (g ++ (x ∷ [])) → x.part.piece ≡ piece.Fault f → AreTokens table g ts → IsLeast (InFile file (SomeLineBreaks whole)) least
+    → IsLeast (InFile file (SomeLineBreaks (whole ++ ((g ++ (x ∷ [])) ∷ [])))) (closed_least (with_broken least file start f) file start ts)
+faulty_breaks table file start whole g x f ts least number e are is =
+    faulty_by table file start whole g x f ts (with_broken least file start f) (nat_lt most_tokens (length ts)) refl number e are
+    (least_more file (SomeLineBreaks whole) (Half whole start f) least start f is (λ l r h. inl h) (inr (refl, refl)) (λ l r h. h))
 
 -- AN ITEM COMES
 
@@ -113,12 +114,12 @@ record Begins (table : List (List ℕ)) (r : Reader) (items : List Item) (x : It
   joins : Joins r hand x
   tokens : AreTokens table hand r.tokens
   lines : r.least ≡ None → AreLines table r.file whole r.lines
-  least : IsLeast (SomeLineBreaks whole) r.least
+  least : IsLeast (InFile r.file (SomeLineBreaks whole)) r.least
 
 -- what `begin_item` does
 pub record BeganBy (r s : Reader) (cl : Bool) : Type 0 where
   pub lines : s.lines ≡ (if parts_lines r cl then r.lines ++ closed_line r.file r.start r.tokens else r.lines)
-  pub least : s.least ≡ (if parts_lines r cl then closed_least r.least r.start r.tokens else r.least)
+  pub least : s.least ≡ (if parts_lines r cl then closed_least r.least r.file r.start r.tokens else r.least)
   pub tokens : s.tokens ≡ (if parts_lines r cl then [] else r.tokens)
   pub fresh : s.tokens ≡ [] → s.start ≡ r.line
   pub start : (s.tokens ≡ [] → ⊥) → s.start ≡ r.start
@@ -136,9 +137,9 @@ lines_same : (b : Bool) (file start : ℕ) (ls : List Line) (ts : List Token) �
 lines_same true file start ls ts e = rw e (append-nil ls)
 lines_same false file start ls ts e = refl
 
-least_kept : (b : Bool) (least : Option Broken) (start : ℕ) (ts : List Token) → ts ≡ [] → (if b then closed_least least start ts else least) ≡ least
-least_kept true least start ts e = rw e refl
-least_kept false least start ts e = refl
+least_kept : (b : Bool) (least : Option Refusal) (file start : ℕ) (ts : List Token) → ts ≡ [] → (if b then closed_least least file start ts else least) ≡ least
+least_kept true least file start ts e = rw e refl
+least_kept false least file start ts e = refl
 
 tokens_same : (b : Bool) (ts : List Token) → ts ≡ [] → (if b then [] else ts) ≡ []
 tokens_same true ts e = refl
@@ -158,12 +159,12 @@ ends_by false go cl e = cc
 
 -- no line was at hand
 began_first : (table : List (List ℕ)) (r s : Reader) (items : List Item) (x : Item) (cl : Bool) (whole : List (List Item)) → ((more : List Item) → grouped (items ++ more) ≡ whole ++ grouped more)
-    → AreTokens table [] r.tokens → (r.least ≡ None → AreLines table r.file whole r.lines) → IsLeast (SomeLineBreaks whole) r.least → x.line ≡ r.line → BeganBy r s cl → Begins table s items x
+    → AreTokens table [] r.tokens → (r.least ≡ None → AreLines table r.file whole r.lines) → IsLeast (InFile r.file (SomeLineBreaks whole)) r.least → x.line ≡ r.line → BeganBy r s cl → Begins table s items x
 began_first table r s items x cl whole groups tokens lines least line by =
     let none = no_tokens table r.tokens tokens in
     let empty = by.tokens ∙ tokens_same (parts_lines r cl) r.tokens none in
     let same = by.lines ∙ lines_same (parts_lines r cl) r.file r.start r.lines r.tokens none in
-    let kept = by.least ∙ least_kept (parts_lines r cl) r.least r.start r.tokens none in
+    let kept = by.least ∙ least_kept (parts_lines r cl) r.least r.file r.start r.tokens none in
     record {
       whole = whole;
       hand = [];
@@ -171,12 +172,12 @@ began_first table r s items x cl whole groups tokens lines least line by =
       joins = by.fresh empty ∙ sym line;
       tokens = subst (λ ts. AreTokens table [] ts) (sym empty) tt;
       lines = λ e. rw (by.file, same) (lines (sym kept ∙ e));
-      least = subst (λ b. IsLeast (SomeLineBreaks whole) b) (sym kept) least;
+      least = least_moved (SomeLineBreaks whole) r.file s.file r.least s.least by.file kept least;
     }
 
 -- the line at hand goes on
 began_on : (table : List (List ℕ)) (r s : Reader) (items : List Item) (x : Item) (cl : Bool) (whole : List (List Item)) (a : Item) (hs : List Item) → ((more : List Item) → grouped (items ++ more) ≡ whole ++ grouped ((a ∷ hs) ++ more))
-    → IsHand r (a ∷ hs) → AreTokens table (a ∷ hs) r.tokens → (r.least ≡ None → AreLines table r.file whole r.lines) → IsLeast (SomeLineBreaks whole) r.least → x.breaks ≡ r.breaks → closes x.part.piece ≡ cl → BeganBy r s cl
+    → IsHand r (a ∷ hs) → AreTokens table (a ∷ hs) r.tokens → (r.least ≡ None → AreLines table r.file whole r.lines) → IsLeast (InFile r.file (SomeLineBreaks whole)) r.least → x.breaks ≡ r.breaks → closes x.part.piece ≡ cl → BeganBy r s cl
     → parts_lines r cl ≡ false → Begins table s items x
 began_on table r s items x cl whole a hs groups is_hand tokens lines least breaks cls by e =
     let some = some_tokens table a hs r.tokens tokens in
@@ -191,17 +192,17 @@ began_on table r s items x cl whole a hs groups is_hand tokens lines least break
       joins = (is_hand.0, start ∙ is_hand.1, joined_is (last_of a hs) x r.breaks r.goes_on cl is_hand.3 breaks is_hand.2 cls ∙ goes_by r.breaks r.goes_on cl e);
       tokens = subst (λ ts. AreTokens table (a ∷ hs) ts) (sym same) tokens;
       lines = λ n. rw (by.file, still) (lines (sym kept ∙ n));
-      least = subst (λ b. IsLeast (SomeLineBreaks whole) b) (sym kept) least;
+      least = least_moved (SomeLineBreaks whole) r.file s.file r.least s.least by.file kept least;
     }
 
 -- the line at hand is whole
 began_new : (table : List (List ℕ)) (r s : Reader) (items : List Item) (x : Item) (cl : Bool) (whole : List (List Item)) (a : Item) (hs : List Item) → ((more : List Item) → grouped (items ++ more) ≡ whole ++ grouped ((a ∷ hs) ++ more))
-    → IsHand r (a ∷ hs) → AreTokens table (a ∷ hs) r.tokens → (r.least ≡ None → AreLines table r.file whole r.lines) → IsLeast (SomeLineBreaks whole) r.least → x.line ≡ r.line → x.breaks ≡ r.breaks → closes x.part.piece ≡ cl → BeganBy r s cl
+    → IsHand r (a ∷ hs) → AreTokens table (a ∷ hs) r.tokens → (r.least ≡ None → AreLines table r.file whole r.lines) → IsLeast (InFile r.file (SomeLineBreaks whole)) r.least → x.line ≡ r.line → x.breaks ≡ r.breaks → closes x.part.piece ≡ cl → BeganBy r s cl
     → parts_lines r cl ≡ true → Begins table s items x
 began_new table r s items x cl whole a hs groups is_hand tokens lines least line breaks cls by e =
     let some = some_tokens table a hs r.tokens tokens in
     let empty : s.tokens ≡ [] = by.tokens ∙ (rw e refl) in
-    let kept : s.least ≡ closed_least r.least r.start r.tokens = by.least ∙ (rw e refl) in
+    let kept : s.least ≡ closed_least r.least r.file r.start r.tokens = by.least ∙ (rw e refl) in
     let still : s.lines ≡ r.lines ++ closed_line r.file r.start r.tokens = by.lines ∙ (rw e refl) in
     let apart = joined_is (last_of a hs) x r.breaks r.goes_on cl is_hand.3 breaks is_hand.2 cls ∙ ends_by r.breaks r.goes_on cl e in
     record {
@@ -211,11 +212,11 @@ began_new table r s items x cl whole a hs groups is_hand tokens lines least line
       joins = by.fresh empty ∙ sym line;
       tokens = subst (λ ts. AreTokens table [] ts) (sym empty) tt;
       lines = λ n. rw (by.file, still) (closed_lines table r.file r.start whole r.lines (a ∷ hs) r.tokens r.least (nat_lt most_tokens (length r.tokens)) refl is_hand.1 some tokens lines (sym kept ∙ n));
-      least = subst (λ b. IsLeast (SomeLineBreaks (whole ++ ((a ∷ hs) ∷ []))) b) (sym kept) (closed_breaks table r.start whole (a ∷ hs) r.tokens r.least (nat_lt most_tokens (length r.tokens)) refl is_hand.1 tokens least);
+      least = least_moved (SomeLineBreaks (whole ++ ((a ∷ hs) ∷ []))) r.file s.file _ s.least by.file kept (closed_breaks table r.file r.start whole (a ∷ hs) r.tokens r.least (nat_lt most_tokens (length r.tokens)) refl is_hand.1 tokens least);
     }
 
 began_by : (table : List (List ℕ)) (r s : Reader) (items : List Item) (x : Item) (cl : Bool) (whole : List (List Item)) (hand : List Item) → ((more : List Item) → grouped (items ++ more) ≡ whole ++ grouped (hand ++ more))
-    → IsHand r hand → AreTokens table hand r.tokens → (r.least ≡ None → AreLines table r.file whole r.lines) → IsLeast (SomeLineBreaks whole) r.least → x.line ≡ r.line → x.breaks ≡ r.breaks → closes x.part.piece ≡ cl → BeganBy r s cl
+    → IsHand r hand → AreTokens table hand r.tokens → (r.least ≡ None → AreLines table r.file whole r.lines) → IsLeast (InFile r.file (SomeLineBreaks whole)) r.least → x.line ≡ r.line → x.breaks ≡ r.breaks → closes x.part.piece ≡ cl → BeganBy r s cl
     → (b : Bool) → parts_lines r cl ≡ b → Begins table s items x
 began_by table r s items x cl whole [] groups is_hand tokens lines least line breaks cls by b e = began_first table r s items x cl whole groups tokens lines least line by
 began_by table r s items x cl whole (a ∷ hs) groups is_hand tokens lines least line breaks cls by true e = began_new table r s items x cl whole a hs groups is_hand tokens lines least line breaks cls by e
@@ -243,7 +244,7 @@ reads_token table r s t items x token cl reads line breaks cls by is tokens goes
       is_hand = hand_more table s t b.hand x b.joins start goes (no_fault table x.part token is);
       tokens = subst (λ ts. AreTokens table (b.hand ++ (x ∷ [])) ts) (sym tokens) (tokens_more table b.hand s.tokens x token b.tokens is);
       lines = λ n. rw (file, lines) (b.lines (sym least ∙ n));
-      least = subst (λ k. IsLeast (SomeLineBreaks b.whole) k) (sym least) b.least;
+      least = least_moved (SomeLineBreaks b.whole) s.file t.file s.least t.least file least b.least;
     }
 
 -- A FAULT COMES
@@ -259,8 +260,8 @@ hand_number s [] x joins = joins
 hand_number s (a ∷ hs) x joins = joins.1
 
 pub reads_fault : (table : List (List ℕ)) (r s t : Reader) (items : List Item) (x : Item) (f : Fault) → Reads table r items → x.line ≡ r.line → x.breaks ≡ r.breaks → BeganBy r s false
-    → x.part.piece ≡ piece.Fault f → t.tokens ≡ [] → t.least ≡ closed_least (lesser_of s.least s.start f) s.start s.tokens → Reads table t (items ++ (x ∷ []))
-reads_fault table r s t items x f reads line breaks by e tokens least =
+    → x.part.piece ≡ piece.Fault f → t.tokens ≡ [] → t.file ≡ s.file → t.least ≡ closed_least (with_broken s.least s.file s.start f) s.file s.start s.tokens → Reads table t (items ++ (x ∷ []))
+reads_fault table r s t items x f reads line breaks by e tokens file least =
     let b = began table r s items x false reads line breaks (ap (λ q. closes q) e) by in
     let is = ap (λ q. is_fault q) e in
     record {
@@ -269,8 +270,8 @@ reads_fault table r s t items x f reads line breaks by e tokens least =
       groups = λ more. ap (λ us. grouped us) (append_assoc items (x ∷ []) more) ∙ b.groups more ∙ ap (λ gs. b.whole ++ gs) (fault_group s b.hand x more b.joins is) ∙ sym (append_assoc b.whole ((b.hand ++ (x ∷ [])) ∷ []) (grouped more));
       is_hand = tt;
       tokens = subst (λ ts. AreTokens table [] ts) (sym tokens) tt;
-      lines = λ n. absurd (some_if (nat_lt most_tokens (length s.tokens)) s.least s.start f LongLine (sym least ∙ n));
-      least = subst (λ k. IsLeast (SomeLineBreaks (b.whole ++ ((b.hand ++ (x ∷ [])) ∷ []))) k) (sym least) (faulty_breaks table s.start b.whole b.hand x f s.tokens s.least (hand_number s b.hand x b.joins) e b.tokens b.least);
+      lines = λ n. absurd (some_if (nat_lt most_tokens (length s.tokens)) s.least s.file s.start f LongLine (sym least ∙ n));
+      least = least_moved (SomeLineBreaks (b.whole ++ ((b.hand ++ (x ∷ [])) ∷ []))) s.file t.file _ t.least file least (faulty_breaks table s.file s.start b.whole b.hand x f s.tokens s.least (hand_number s b.hand x b.joins) e b.tokens b.least);
     }
 
 -- NOTHING WAS READ
@@ -283,7 +284,7 @@ reads_nothing table r tokens lines least = record {
   is_hand = tt;
   tokens = subst (λ ts. AreTokens table [] ts) (sym tokens) tt;
   lines = λ n. subst (λ ls. AreLines table r.file [] ls) (sym lines) tt;
-  least = subst (λ k. IsLeast (SomeLineBreaks []) k) (sym least) (λ l r h. h);
+  least = subst (λ k. IsLeast (InFile r.file (SomeLineBreaks [])) k) (sym least) (λ x h. h.1);
 }
 
 -- EVERYTHING WAS READ
@@ -291,28 +292,28 @@ reads_nothing table r tokens lines least = record {
 -- what the lines are, and the least rule that they break
 pub record WholeLines (table : List (List ℕ)) (r : Reader) (items : List Item) : Type 0 where
   pub lines : r.least ≡ None → AreLines table r.file (grouped items) r.lines
-  pub least : IsLeast (SomeLineBreaks (grouped items)) r.least
+  pub least : IsLeast (InFile r.file (SomeLineBreaks (grouped items))) r.least
 
 whole_by : (table : List (List ℕ)) (r s : Reader) (items : List Item) (whole : List (List Item)) (hand : List Item) → ((more : List Item) → grouped (items ++ more) ≡ whole ++ grouped (hand ++ more)) → IsHand r hand → AreTokens table hand r.tokens
-    → (r.least ≡ None → AreLines table r.file whole r.lines) → IsLeast (SomeLineBreaks whole) r.least
-    → s.file ≡ r.file → s.lines ≡ r.lines ++ closed_line r.file r.start r.tokens → s.least ≡ closed_least r.least r.start r.tokens → WholeLines table s items
+    → (r.least ≡ None → AreLines table r.file whole r.lines) → IsLeast (InFile r.file (SomeLineBreaks whole)) r.least
+    → s.file ≡ r.file → s.lines ≡ r.lines ++ closed_line r.file r.start r.tokens → s.least ≡ closed_least r.least r.file r.start r.tokens → WholeLines table s items
 whole_by table r s items whole [] groups is_hand tokens lines least file still kept =
     let none = no_tokens table r.tokens tokens in
     let all : grouped items ≡ whole = ap (λ us. grouped us) (sym (append-nil items)) ∙ groups [] ∙ append-nil whole in
     let same : s.lines ≡ r.lines = still ∙ lines_same true r.file r.start r.lines r.tokens none in
-    let keeps : s.least ≡ r.least = kept ∙ least_kept true r.least r.start r.tokens none in
+    let keeps : s.least ≡ r.least = kept ∙ least_kept true r.least r.file r.start r.tokens none in
     record {
       lines = λ n. rw (all, file, same) (lines (sym keeps ∙ n));
-      least = rw (all, keeps) least;
+      least = rw all (least_moved (SomeLineBreaks whole) r.file s.file r.least s.least file keeps least);
     }
 whole_by table r s items whole (a ∷ hs) groups is_hand tokens lines least file still kept =
     let some = some_tokens table a hs r.tokens tokens in
     let all : grouped items ≡ whole ++ ((a ∷ hs) ∷ []) = ap (λ us. grouped us) (sym (append-nil items)) ∙ groups [] ∙ ap (λ us. whole ++ grouped us) (append-nil (a ∷ hs)) ∙ ap (λ gs. whole ++ gs) (one_line a hs is_hand.0) in
     record {
       lines = λ n. rw (all, file, still) (closed_lines table r.file r.start whole r.lines (a ∷ hs) r.tokens r.least (nat_lt most_tokens (length r.tokens)) refl is_hand.1 some tokens lines (sym kept ∙ n));
-      least = rw (all, kept) (closed_breaks table r.start whole (a ∷ hs) r.tokens r.least (nat_lt most_tokens (length r.tokens)) refl is_hand.1 tokens least);
+      least = rw all (least_moved (SomeLineBreaks (whole ++ ((a ∷ hs) ∷ []))) r.file s.file _ s.least file kept (closed_breaks table r.file r.start whole (a ∷ hs) r.tokens r.least (nat_lt most_tokens (length r.tokens)) refl is_hand.1 tokens least));
     }
 
-pub whole_lines : (table : List (List ℕ)) (r s : Reader) (items : List Item) → Reads table r items → s.file ≡ r.file → s.lines ≡ r.lines ++ closed_line r.file r.start r.tokens → s.least ≡ closed_least r.least r.start r.tokens → WholeLines table s items
+pub whole_lines : (table : List (List ℕ)) (r s : Reader) (items : List Item) → Reads table r items → s.file ≡ r.file → s.lines ≡ r.lines ++ closed_line r.file r.start r.tokens → s.least ≡ closed_least r.least r.file r.start r.tokens → WholeLines table s items
 whole_lines table r s items reads file still kept =
     whole_by table r s items reads.whole reads.hand reads.groups reads.is_hand reads.tokens reads.lines reads.least file still kept

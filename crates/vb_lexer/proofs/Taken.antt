@@ -102,7 +102,7 @@ integer_taken (Some l) n text = refl
 number_of_taken : (base : Base) (m n : ℕ) (suffix : Option (List ℕ × IntegerType)) (text : List Character) → Taken (number_of base m n suffix text)
 unfolding number_of
 number_of_taken base m n suffix text =
-    taken_if (n == 0) _ _ (λ e. refl) (λ e. integer_taken (literal_of base (suffix_type suffix) (value_from (base_number base) 0 (take n (drop m text)))) (m + n + suffix_len suffix) text)
+    taken_if (n == 0) _ _ (λ e. refl) (λ e. integer_taken (literal_of base (suffix_type suffix) n (value_from (base_number base) 0 (take n (drop m text)))) (m + n + suffix_len suffix) text)
 
 number_taken : (base : Base) (m : ℕ) (text : List Character) → Taken (number_at base m text)
 number_taken base m text = number_of_taken base m (digits_len base m text) (suffix_in suffixes (drop (m + digits_len base m text) text)) text

@@ -49,7 +49,7 @@ number_of_plain : (base : Base) (mark n : ℕ) (suffix : Option (List ℕ × Int
 unfolding number_of
 number_of_plain base mark n suffix text =
     plain_if (n == 0) _ _ refl
-    (integer_plain (literal_of base (suffix_type suffix) (value_from (base_number base) 0 (take n (drop mark text)))) (mark + n + suffix_len suffix) text)
+    (integer_plain (literal_of base (suffix_type suffix) n (value_from (base_number base) 0 (take n (drop mark text)))) (mark + n + suffix_len suffix) text)
 
 number_plain : (base : Base) (mark : ℕ) (text : List Character) → Plain (number_at base mark text)
 number_plain base mark text = number_of_plain base mark (digits_len base mark text) (suffix_in suffixes (drop (mark + digits_len base mark text) text)) text

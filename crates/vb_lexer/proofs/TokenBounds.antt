@@ -188,7 +188,7 @@ number_of_within base mark n suffix text digits behind some line =
     within_if (n == 0) (fault broken.NumberLiteral text) _ text (λ e. fault_within broken.NumberLiteral text some line)
     (λ e.
     let first = eqb-false n 0 e in
-    integer_within (literal_of base (suffix_type suffix) (value_from (base_number base) 0 (take n (drop mark text)))) (mark + n + suffix_len suffix) text
+    integer_within (literal_of base (suffix_type suffix) n (value_from (base_number base) 0 (take n (drop mark text)))) (mark + n + suffix_len suffix) text
     (omega (arith, first)) (omega (arith, first, digits, behind, length-drop mark text, length-drop (mark + n) text)) some line)
 
 pub number_within : (base : Base) (mark : ℕ) (text : List Character) → 0 < length text → is_in_line (char_at text 0) ≡ true → Within (number_at base mark text) text

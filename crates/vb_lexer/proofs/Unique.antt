@@ -1,11 +1,13 @@
 -- A file is one text, which falls into pieces in one way and has one list of logical lines.
-use Rattle.std.proofs.Common.{◌≡◌, ℕ, List, [], ◌∷◌, ◌++◌, length, drop, refl, sym, ap, ap₂, ◌∙◌, subst, inl, inr, arith, take-append-drop, append_assoc, append-nil}
+use Rattle.std.proofs.Common.{◌≡◌, ℕ, Bool, true, false, List, [], ◌∷◌, ◌++◌, Option, length, drop, refl, sym, ap, ap₂, ◌∙◌, subst, inl, inr, arith, take-append-drop, append_assoc, append-nil}
 use Rattle.bstr.specs.Utf8.{decoded}
+use Rattle.vb_diag.specs.{declared.refusal.Refusal.Refusal, Broken.{IsLeast, InFile}}
+use Rattle.vb_diag.proofs.Least.{rules_ordered, one_least}
 use Rattle.vb_text.specs.{Names.{folding, IsNameOf, AreApart, Extends}, declared.names.Name.Name}
 use Rattle.vb_text.proofs.Growth.{kept_name}
 use Rattle.vb_syntax.specs.declared.tokens.{Token.Token, Line.Line}
 use Rattle.vb_syntax.specs.declared.tokens.Token.TheVariants as token
-use Rattle.vb_lexer.specs.{declared.piece.{Piece.Piece, Before.Before}, Characters.{Character, Decodes, IsText, without_mark}, Pieces.{Part, Falls, piece_at, behind, spelled, file_front}, Lines.{Item, IsToken, AreTokens, IsLine, AreLines, IsNotAfter, IsBroken, Lexed, Breaks, groups_of, with_parts, LexedFrom}}
+use Rattle.vb_lexer.specs.{declared.piece.{Piece.Piece, Before.Before}, Characters.{Character, Decodes, IsText, without_mark, is_ascii}, Pieces.{Part, Falls, piece_at, behind, spelled, file_front}, Lines.{Item, IsToken, AreTokens, IsLine, AreLines, IsBroken, Lexed, Breaks, groups_of, with_parts, LexedFrom}}
 use Rattle.vb_lexer.specs.declared.piece.Piece.TheVariants as piece
 
 -- TEXTS
@@ -49,16 +51,17 @@ spells_text text parts h = spells file_front text parts h
 name_unique : (table : List (List ℕ)) (text : List ℕ) (n m : Name) → AreApart table → IsNameOf table text n → IsNameOf table text m → n ≡ m
 name_unique table text n m apart h k = ap (λ i. record { index = i }) (apart n.index m.index (folding text) h k)
 
--- the kind of a piece that is a token
-abbrev kind : Piece → ℕ
-kind piece.Name = 0
-kind piece.EscapedName = 1
-kind (piece.Keyword k) = 2
-kind (piece.Integer l) = 3
-kind piece.Text = 4
-kind (piece.Char u) = 5
-kind (piece.Symbol s) = 6
-kind _ = 7
+-- the kind of a piece that is a token, by whether its characters are of ASCII
+abbrev kind : Piece → Bool → ℕ
+kind piece.Name true = 0
+kind piece.Name false = 1
+kind piece.EscapedName ascii = 1
+kind (piece.Keyword k) ascii = 2
+kind (piece.Integer l) ascii = 3
+kind piece.Text ascii = 4
+kind (piece.Char u) ascii = 5
+kind (piece.Symbol s) ascii = 6
+kind _ ascii = 7
 
 abbrev token_kind : Token → ℕ
 token_kind (token.Name n) = 0
@@ -69,21 +72,31 @@ token_kind (token.Text units) = 4
 token_kind (token.Char u) = 5
 token_kind (token.Symbol s) = 6
 
-one_kind : (table : List (List ℕ)) (p : Part) (t : Token) → IsToken table p t → kind p.piece ≡ token_kind t
-one_kind table p (token.Name n) h = ap kind h.0
-one_kind table p (token.EscapedName n) h = ap kind h.0
-one_kind table p (token.Keyword k) h = ap kind h
-one_kind table p (token.Integer l) h = ap kind h
-one_kind table p (token.Text units) h = ap kind h.0
-one_kind table p (token.Char u) h = ap kind h
-one_kind table p (token.Symbol s) h = ap kind h
+one_kind : (table : List (List ℕ)) (p : Part) (t : Token) → IsToken table p t → kind p.piece (is_ascii p.characters) ≡ token_kind t
+one_kind table p (token.Name n) h = ap₂ kind h.0 h.1
+one_kind table p (token.EscapedName n) (inl h) = ap (λ q. kind q (is_ascii p.characters)) h.0
+one_kind table p (token.EscapedName n) (inr h) = ap₂ kind h.0 h.1
+one_kind table p (token.Keyword k) h = ap (λ q. kind q (is_ascii p.characters)) h
+one_kind table p (token.Integer l) h = ap (λ q. kind q (is_ascii p.characters)) h
+one_kind table p (token.Text units) h = ap (λ q. kind q (is_ascii p.characters)) h.0
+one_kind table p (token.Char u) h = ap (λ q. kind q (is_ascii p.characters)) h
+one_kind table p (token.Symbol s) h = ap (λ q. kind q (is_ascii p.characters)) h
 
 kinds_apart : (table : List (List ℕ)) (p : Part) (t u : Token) → (token_kind t ≡ token_kind u → ⊥) → IsToken table p t → IsToken table p u → t ≡ u
 kinds_apart table p t u other h k = absurd (other (sym (one_kind table p t h) ∙ one_kind table p u k))
 
+brackets_alone : (p : Part) → p.piece ≡ piece.EscapedName → p.piece ≡ piece.Name → ⊥
+brackets_alone p e f = let same : piece.EscapedName ≡ piece.Name = sym e ∙ f in cc
+
+escaped_unique : (table : List (List ℕ)) (p : Part) (n m : Name) → AreApart table → IsToken table p (token.EscapedName n) → IsToken table p (token.EscapedName m) → n ≡ m
+escaped_unique table p n m apart (inl h) (inl k) = name_unique table _ n m apart h.1 k.1
+escaped_unique table p n m apart (inr h) (inr k) = name_unique table _ n m apart h.2 k.2
+escaped_unique table p n m apart (inl h) (inr k) = absurd (brackets_alone p h.0 k.0)
+escaped_unique table p n m apart (inr h) (inl k) = absurd (brackets_alone p k.0 h.0)
+
 token_unique : (table : List (List ℕ)) (p : Part) (t u : Token) → AreApart table → IsToken table p t → IsToken table p u → t ≡ u
-token_unique table p (token.Name n) (token.Name m) apart h k = ap (λ x. token.Name x) (name_unique table _ n m apart h.1 k.1)
-token_unique table p (token.EscapedName n) (token.EscapedName m) apart h k = ap (λ x. token.EscapedName x) (name_unique table _ n m apart h.1 k.1)
+token_unique table p (token.Name n) (token.Name m) apart h k = ap (λ x. token.Name x) (name_unique table _ n m apart h.2 k.2)
+token_unique table p (token.EscapedName n) (token.EscapedName m) apart h k = ap (λ x. token.EscapedName x) (escaped_unique table p n m apart h k)
 token_unique table p (token.Keyword w) (token.Keyword v) apart h k = cc (h, k)
 token_unique table p (token.Integer w) (token.Integer v) apart h k = cc (h, k)
 token_unique table p (token.Text w) (token.Text v) apart h k = ap (λ x. token.Text x) (h.1 ∙ sym k.1)
@@ -133,24 +146,19 @@ pub table_unique : (earlier table other : List (List ℕ)) (file other_file : �
 table_unique earlier table other file other_file bytes lines others l m =
     l.names ∙ ap (λ ps. with_parts earlier ps) (parts_unique bytes l.lexed.text m.lexed.text l.lexed.parts m.lexed.parts l.lexed.decoded m.lexed.decoded l.lexed.falls m.lexed.falls) ∙ sym m.names
 
+-- a rule that a file breaks is broken by its pieces
+pub broken_in : (bytes : List ℕ) (text : List Character) (parts : List Part) (line rule : ℕ) → IsText bytes text → Falls file_front text parts → Breaks bytes line rule → IsBroken parts line rule
+broken_in bytes text parts line rule is_text falls b =
+    subst (λ ps. IsBroken ps line rule) (parts_unique bytes b.text text b.parts parts b.decoded is_text b.falls falls) b.broken
+
 -- a file that has lines breaks no rule
 pub never_both : (table : List (List ℕ)) (file : ℕ) (bytes : List ℕ) (lines : List Line) (line rule : ℕ) → Lexed table file bytes lines → Breaks bytes line rule → ⊥
 never_both table file bytes lines line rule l b =
-    l.sound line rule (subst (λ ps. IsBroken ps line rule) (parts_unique bytes b.text l.text b.parts l.parts b.decoded l.decoded b.falls l.falls) b.broken)
+    l.sound line rule (broken_in bytes l.text l.parts line rule l.decoded l.falls b)
 
-after_both : (a b c d : ℕ) → IsNotAfter a b c d → IsNotAfter c d a b → (a ≡ c) × (b ≡ d)
-after_both a b c d (inl h) (inl k) = absurd (omega (arith, h, k))
-after_both a b c d (inl h) (inr k) = absurd (omega (arith, h, k.0))
-after_both a b c d (inr h) (inl k) = absurd (omega (arith, h.0, k))
-after_both a b c d (inr h) (inr k) = (h.0, omega (arith, h.1, k.1))
-
--- the least of the rules that a file breaks is one
-pub refusal_unique : (bytes : List ℕ) (line rule other_line other_rule : ℕ) → Breaks bytes line rule → Breaks bytes other_line other_rule → (line ≡ other_line) × (rule ≡ other_rule)
-refusal_unique bytes line rule other_line other_rule b d =
-    let same = parts_unique bytes b.text d.text b.parts d.parts b.decoded d.decoded b.falls d.falls in
-    after_both line rule other_line other_rule
-    (b.least other_line other_rule (subst (λ ps. IsBroken ps other_line other_rule) (sym same) d.broken))
-    (d.least line rule (subst (λ ps. IsBroken ps line rule) same b.broken))
+-- a file has one least refusal, or none
+pub refusal_unique : (file : ℕ) (bytes : List ℕ) (first other : Option Refusal) → IsLeast (InFile file (Breaks bytes)) first → IsLeast (InFile file (Breaks bytes)) other → first ≡ other
+refusal_unique file bytes first other h k = one_least rules_ordered (InFile file (Breaks bytes)) first other h k
 
 -- TABLES THAT GROW
 
@@ -162,8 +170,9 @@ extends_trans a b c h k = (k.0 ++ h.0, h.1 ∙ ap (λ t. t ++ h.0) k.1 ∙ appen
 
 -- a token stays a piece's token when the table grows
 pub token_stays : (table later : List (List ℕ)) (p : Part) (t : Token) → Extends later table → IsToken table p t → IsToken later p t
-token_stays table later p (token.Name n) grown h = (h.0, kept_name table later _ n h.1 grown)
-token_stays table later p (token.EscapedName n) grown h = (h.0, kept_name table later _ n h.1 grown)
+token_stays table later p (token.Name n) grown h = (h.0, h.1, kept_name table later _ n h.2 grown)
+token_stays table later p (token.EscapedName n) grown (inl h) = inl (h.0, kept_name table later _ n h.1 grown)
+token_stays table later p (token.EscapedName n) grown (inr h) = inr (h.0, h.1, kept_name table later _ n h.2 grown)
 token_stays table later p (token.Keyword k) grown h = h
 token_stays table later p (token.Integer l) grown h = h
 token_stays table later p (token.Text units) grown h = h

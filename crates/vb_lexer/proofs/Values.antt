@@ -1,5 +1,5 @@
 -- The numbers of digits, and texts at the front.
-use Rattle.std.proofs.Common.{◌≡◌, ℕ, zero, suc, ◌+◌, ◌-◌, ◌*◌, ◌/◌, ◌^◌, ◌<◌, ◌≤◌, true, false, nat_lt, List, [], ◌∷◌, length, get_or, drop, take, Option, None, Some, refl, ap, sym, ◌∙◌, add-one, drop-cons, arith, if◌then◌else◌}
+use Rattle.std.proofs.Common.{◌≡◌, ℕ, zero, suc, ◌+◌, ◌-◌, ◌*◌, ◌/◌, ◌^◌, ◌<◌, ◌≤◌, true, false, nat_lt, List, [], ◌∷◌, length, get_or, drop, take, Option, None, Some, refl, ap, ap₂, sym, ◌∙◌, length-take-le, add-one, drop-cons, arith, if◌then◌else◌}
 use Rattle.std.specs.Char.{to_ascii_lowercase}
 use Rattle.std.proofs.Math.ListN.{drop_of_length-le}
 use Rattle.std.proofs.Math.Seq.{drop-nil}
@@ -10,6 +10,7 @@ use Rattle.std.proofs.lemmas.Grind.{common_steps}
 use Rattle.vb_syntax.specs.declared.tokens.{IntegerType.{IntegerType, TheVariants.{Short, UShort, Integer, UInteger, Long, ULong}}, IntegerLiteral.IntegerLiteral}
 use Rattle.vb_lexer.specs.{declared.piece.Base.{Base, TheVariants.{Decimal, Hexadecimal, Octal}}, Characters.{Character, run_len}, Tokens.{is_digit, suffixes, suffix_in, suffix_type, suffix_len, integer_or_fault, number_of, number_at, fault, char_at, starts, base_number, digit_value, value_from, literal_of, decimal_literal, bits_literal}}
 use Rattle.vb_lexer.specs.declared.piece.Fault.TheVariants as broken
+use Rattle.vb_lexer.proofs.TokenBounds.{run_le}
 
 pub value_step : (b n : ℕ) (ds : List Character) (i : ℕ) → i < length ds → value_from b n (drop i ds) ≡ value_from b (n * b + digit_value (get_or ds i None)) (drop (i + 1) ds)
 unfolding value_from
@@ -50,14 +51,14 @@ none_above v h = grind (arith, common_steps)
 pub some_below : (v : ℕ) → v < 2 ^ 64 → Some v ≡ (if nat_lt v (2 ^ 64) then Some v else None)
 some_below v h = grind (arith, common_steps)
 
-too_large_decimal : (kind : Option IntegerType) (v : ℕ) → 2 ^ 64 ≤ v → decimal_literal kind v ≡ None
-too_large_decimal None v h = grind (arith, common_steps)
-too_large_decimal (Some Short) v h = grind (arith, common_steps)
-too_large_decimal (Some UShort) v h = grind (arith, common_steps)
-too_large_decimal (Some Integer) v h = grind (arith, common_steps)
-too_large_decimal (Some UInteger) v h = grind (arith, common_steps)
-too_large_decimal (Some Long) v h = grind (arith, common_steps)
-too_large_decimal (Some ULong) v h = grind (arith, common_steps)
+too_large_decimal : (kind : Option IntegerType) (digits v : ℕ) → 2 ^ 64 ≤ v → decimal_literal kind digits v ≡ None
+too_large_decimal None digits v h = grind (arith, common_steps)
+too_large_decimal (Some Short) digits v h = grind (arith, common_steps)
+too_large_decimal (Some UShort) digits v h = grind (arith, common_steps)
+too_large_decimal (Some Integer) digits v h = grind (arith, common_steps)
+too_large_decimal (Some UInteger) digits v h = grind (arith, common_steps)
+too_large_decimal (Some Long) digits v h = grind (arith, common_steps)
+too_large_decimal (Some ULong) digits v h = grind (arith, common_steps)
 
 too_large_bits : (kind : Option IntegerType) (v : ℕ) → 2 ^ 64 ≤ v → bits_literal kind v ≡ None
 too_large_bits None v h = grind (arith, common_steps)
@@ -69,11 +70,11 @@ too_large_bits (Some Long) v h = grind (arith, common_steps)
 too_large_bits (Some ULong) v h = grind (arith, common_steps)
 
 -- no type has a number of more than 64 bits
-pub too_large : (base : Base) (kind : Option IntegerType) (v : ℕ) → 2 ^ 64 ≤ v → literal_of base kind v ≡ None
+pub too_large : (base : Base) (kind : Option IntegerType) (digits v : ℕ) → 2 ^ 64 ≤ v → literal_of base kind digits v ≡ None
 unfolding literal_of
-too_large Decimal kind v h = too_large_decimal kind v h
-too_large Hexadecimal kind v h = too_large_bits kind v h
-too_large Octal kind v h = too_large_bits kind v h
+too_large Decimal kind digits v h = too_large_decimal kind digits v h
+too_large Hexadecimal kind digits v h = too_large_bits kind v h
+too_large Octal kind digits v h = too_large_bits kind v h
 
 -- a character stands there, so the place is in the text
 pub place_within : (ts : List Character) (i : ℕ) (c : ℕ) → char_at ts i ≡ Some c → i + 1 ≤ length ts
@@ -112,7 +113,7 @@ starts_none (x ∷ xs) (None ∷ ts) zero below at = refl
 starts_none (x ∷ xs) (Some d ∷ ts) zero below at = cc
 starts_none (x ∷ xs) (t ∷ ts) (suc i) below at = starts_none xs ts i (omega arith) at
 
-number_by : (base : Base) (mark n len : ℕ) (s : Option (List ℕ × IntegerType)) (kind : Option IntegerType) (o : Option IntegerLiteral) (text : List Character) → (n ≡ 0 → ⊥) → kind ≡ suffix_type s → len ≡ suffix_len s → o ≡ literal_of base kind (value_from (base_number base) 0 (take n (drop mark text))) → integer_or_fault o (mark + n + len) text ≡ number_of base mark n s text
+number_by : (base : Base) (mark n len : ℕ) (s : Option (List ℕ × IntegerType)) (kind : Option IntegerType) (o : Option IntegerLiteral) (text : List Character) → (n ≡ 0 → ⊥) → kind ≡ suffix_type s → len ≡ suffix_len s → o ≡ literal_of base kind n (value_from (base_number base) 0 (take n (drop mark text))) → integer_or_fault o (mark + n + len) text ≡ number_of base mark n s text
 unfolding number_of
 number_by base mark n len s kind o text some kinds lens literals = rw (ne_eqb n 0 some) cc
 
@@ -121,11 +122,12 @@ unfolding number_of
 number_without base mark n s text none = rw (eq-eqb n 0 none) refl
 
 -- a number of n digits and a suffix
-pub number_found : (base : Base) (mark n len : ℕ) (kind : Option IntegerType) (o : Option IntegerLiteral) (text behind digits after : List Character) → behind ≡ drop mark text → digits ≡ take n behind → after ≡ drop n behind → n ≡ run_len (is_digit base) behind → (n ≡ 0 → ⊥) → kind ≡ suffix_type (suffix_in suffixes after) → len ≡ suffix_len (suffix_in suffixes after) → o ≡ literal_of base kind (value_from (base_number base) 0 digits) → integer_or_fault o (mark + n + len) text ≡ number_at base mark text
+pub number_found : (base : Base) (mark n len : ℕ) (kind : Option IntegerType) (o : Option IntegerLiteral) (text behind digits after : List Character) → behind ≡ drop mark text → digits ≡ take n behind → after ≡ drop n behind → n ≡ run_len (is_digit base) behind → (n ≡ 0 → ⊥) → kind ≡ suffix_type (suffix_in suffixes after) → len ≡ suffix_len (suffix_in suffixes after) → o ≡ literal_of base kind (length digits) (value_from (base_number base) 0 digits) → integer_or_fault o (mark + n + len) text ≡ number_at base mark text
 number_found base mark n len kind o text behind digits after is_behind are_digits is_after count some kinds lens literals =
     let taken : digits ≡ take n (drop mark text) = are_digits ∙ ap (λ b. take n b) is_behind in
+    let few : length digits ≡ n = ap (λ d. length d) are_digits ∙ length-take-le n behind (omega (arith, count, run_le (is_digit base) behind)) in
     let rest : after ≡ drop (mark + n) text = is_after ∙ ap (λ b. drop n b) is_behind ∙ drop-drop n mark text in
-    number_by base mark n len (suffix_in suffixes after) kind o text some kinds lens (literals ∙ ap (λ d. literal_of base kind (value_from (base_number base) 0 d)) taken)
+    number_by base mark n len (suffix_in suffixes after) kind o text some kinds lens (literals ∙ ap₂ (λ k d. literal_of base kind k (value_from (base_number base) 0 d)) few taken)
     ∙ ap (λ d. number_of base mark n (suffix_in suffixes d) text) rest
     ∙ ap (λ k. number_of base mark k (suffix_in suffixes (drop (mark + k) text)) text) (count ∙ ap (λ b. run_len (is_digit base) b) is_behind)
 

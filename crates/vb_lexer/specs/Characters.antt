@@ -1,5 +1,6 @@
 -- The characters of a file, and their classes.
 use Rattle.std.specs.Prelude.{◌≡◌, ℕ, suc, ◌<◌, Bool, true, false, ◌&&◌, ◌||◌, ◌==◌, nat_le, if◌then◌else◌, List, [], ◌∷◌, length, drop, Option, Some, None}
+use Rattle.std.specs.Char.{is_ascii as is_ascii_code}
 use Rattle.bstr.specs.Utf8.{decoded}
 use Rattle.unicode.specs.GeneralCategory.{general_category}
 use Rattle.ucd_category.specs.declared.GeneralCategory.{GeneralCategory}
@@ -128,3 +129,9 @@ abbrev pub is_readable : List Character → Bool
 is_readable [] = true
 is_readable (None ∷ cs) = false
 is_readable (Some c ∷ cs) = is_readable cs
+
+-- each of them is of ASCII
+abbrev pub is_ascii : List Character → Bool
+is_ascii [] = true
+is_ascii (None ∷ cs) = false
+is_ascii (Some c ∷ cs) = is_ascii_code c && is_ascii cs

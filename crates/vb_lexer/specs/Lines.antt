@@ -1,11 +1,12 @@
 -- The logical lines of the pieces of a text, and the rules that it breaks.
 use Rattle.std.specs.Prelude.{◌≡◌, ◌⊎◌, ℕ, ◌+◌, ◌-◌, ◌<◌, ◌≤◌, Bool, true, false, ◌||◌, not, if◌then◌else◌, List, [], ◌∷◌, ◌++◌, length, take, drop, encode_utf8_all}
+use Rattle.vb_diag.specs.Broken.{OfRule}
 use Rattle.vb_text.specs.Names.{IsNameOf, with_name}
 use Rattle.vb_syntax.specs.declared.keyword.Keyword.TheVariants as word
 use Rattle.vb_syntax.specs.declared.symbol.Symbol.TheVariants as sign
 use Rattle.vb_syntax.specs.declared.tokens.{Token.Token, Line.Line}
 use Rattle.vb_syntax.specs.declared.tokens.Token.TheVariants as token
-use Rattle.vb_lexer.specs.{declared.piece.{Piece.Piece, Fault.Fault}, Characters.{Character, IsText, readable}, Tokens.units_of, Pieces.{Part, Falls, file_front}}
+use Rattle.vb_lexer.specs.{declared.piece.{Piece.Piece, Fault.Fault}, Characters.{Character, IsText, readable, is_ascii}, Tokens.units_of, Pieces.{Part, Falls, file_front}}
 use Rattle.vb_lexer.specs.declared.piece.Piece.TheVariants as piece
 use Rattle.vb_lexer.specs.declared.piece.Fault.TheVariants as broken
 
@@ -106,10 +107,13 @@ groups_of parts = grouped (items_of parts)
 
 -- TOKENS
 
--- the token of a piece in a table of names
+-- The token of a piece in a table of names. The words of the grammar are of ASCII, so a name that has another character is never
+-- read as one of them, as a name between brackets isn't.
 abbrev pub IsToken : List (List ℕ) → Part → Token → Type 0
-IsToken table p (token.Name n) = (p.piece ≡ piece.Name) × IsNameOf table (encode_utf8_all (readable p.characters)) n
-IsToken table p (token.EscapedName n) = (p.piece ≡ piece.EscapedName) × IsNameOf table (encode_utf8_all (readable (take (length p.characters - 2) (drop 1 p.characters)))) n
+IsToken table p (token.Name n) = (p.piece ≡ piece.Name) × (is_ascii p.characters ≡ true) × IsNameOf table (encode_utf8_all (readable p.characters)) n
+IsToken table p (token.EscapedName n) =
+    ((p.piece ≡ piece.EscapedName) × IsNameOf table (encode_utf8_all (readable (take (length p.characters - 2) (drop 1 p.characters)))) n)
+    ⊎ ((p.piece ≡ piece.Name) × (is_ascii p.characters ≡ false) × IsNameOf table (encode_utf8_all (readable p.characters)) n)
 IsToken table p (token.Keyword k) = p.piece ≡ piece.Keyword k
 IsToken table p (token.Integer l) = p.piece ≡ piece.Integer l
 IsToken table p (token.Text units) = (p.piece ≡ piece.Text) × (units ≡ units_of (take (length p.characters - 2) (drop 1 p.characters)))
@@ -213,11 +217,7 @@ RegionBreaks marks line = IsUnclosed marks line ⊎ IsUnopened marks line
 
 -- a text of these parts breaks the rule in the line
 abbrev pub IsBroken : List Part → ℕ → ℕ → Type 0
-IsBroken parts line rule = SomeLineBreaks (groups_of parts) line rule ⊎ ((rule ≡ 9) × RegionBreaks (marks_of parts) line)
-
--- a rule in a line is printed before, or is, another in a line
-abbrev pub IsNotAfter : ℕ → ℕ → ℕ → ℕ → Type 0
-IsNotAfter line rule other_line other_rule = (line < other_line) ⊎ ((line ≡ other_line) × (rule ≤ other_rule))
+IsBroken parts line rule = SomeLineBreaks (groups_of parts) line rule ⊎ OfRule 9 (RegionBreaks (marks_of parts)) line rule
 
 -- THE NAMES OF A FILE
 
@@ -252,11 +252,10 @@ pub record LexedFrom (earlier table : List (List ℕ)) (file : ℕ) (bytes : Lis
   pub lexed : Lexed table file bytes lines
   pub names : table ≡ with_parts earlier lexed.parts
 
--- The bytes are a file that breaks the lexical rule in the line, and none in a line before it and none of a lesser number there.
+-- The bytes are a file that breaks the lexical rule in the line.
 pub record Breaks (bytes : List ℕ) (line : ℕ) (rule : ℕ) : Type 0 where
   pub text : List Character
   pub decoded : IsText bytes text
   pub parts : List Part
   pub falls : Falls file_front text parts
   pub broken : IsBroken parts line rule
-  pub least : (other_line other_rule : ℕ) → IsBroken parts other_line other_rule → IsNotAfter line rule other_line other_rule

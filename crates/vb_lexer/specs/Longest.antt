@@ -1,5 +1,5 @@
 -- Which characters are a token of each sort, however a text is read (Visual Basic Language Specification 11.0, 2.2 to 2.6).
-use Rattle.std.specs.Prelude.{◌≡◌, ◌⊎◌, ℕ, ◌≤◌, Bool, true, false, List, [], ◌∷◌, ◌++◌, length, Option, Some, None, codes}
+use Rattle.std.specs.Prelude.{◌≡◌, ◌⊎◌, ◌↔◌, ℕ, ◌≤◌, Bool, true, false, List, [], ◌∷◌, ◌++◌, length, Option, Some, None, codes}
 use Rattle.std.specs.List.{list_all}
 use Rattle.vb_text.specs.Units.{most_units}
 use Rattle.vb_syntax.specs.{Texts.{keyword_text, symbol_text}, declared.{keyword.Keyword.Keyword, tokens.{IntegerType.IntegerType, IntegerLiteral.IntegerLiteral}}}
@@ -35,6 +35,10 @@ abbrev pub IsSuffix : Option IntegerType → List Character → Type 0
 IsSuffix None cs = cs ≡ []
 IsSuffix (Some t) cs = IsAmong suffixes t cs
 
+-- one decimal digit, without a suffix
+abbrev pub IsOneDigit : Base → Option IntegerType → List Character → Type 0
+IsOneDigit base kind digits = (base ≡ Decimal) × (kind ≡ None) × (length digits ≡ 1)
+
 -- an integer literal: the mark of its base, digits, and perhaps a suffix, with a value of its type (2.4.2)
 pub record IsInteger (l : IntegerLiteral) (cs : List Character) : Type 0 where
   pub base : Base
@@ -47,7 +51,8 @@ pub record IsInteger (l : IntegerLiteral) (cs : List Character) : Type 0 where
   pub some : 1 ≤ length digits
   pub are_digits : list_all (is_digit base) digits ≡ true
   pub suffixed : IsSuffix kind suffix
-  pub value : literal_of base kind (value_from (base_number base) 0 digits) ≡ Some l
+  pub value : literal_of base kind (length digits) (value_from (base_number base) 0 digits) ≡ Some l
+  pub digit : (l.is_digit ≡ true) ↔ IsOneDigit base kind digits
 
 -- characters between the quotes of a literal: neither quotes nor line ends, but for doubled quotes (2.4.4)
 abbrev pub AreBetweenQuotes : List Character → Type 0

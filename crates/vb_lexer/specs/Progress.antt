@@ -1,13 +1,13 @@
 -- How far a file was read.
-use Rattle.std.specs.Prelude.{◌≡◌, ◌⊎◌, ℕ, ◌+◌, ◌≤◌, Bool, true, if◌then◌else◌, List, ◌++◌, length, Option, Some, None, Result, Ok, Err}
-use Rattle.vb_diag.specs.declared.refusal.Refusal.{Refusal}
+use Rattle.std.specs.Prelude.{◌≡◌, ◌⊎◌, ℕ, ◌+◌, ◌≤◌, Bool, true, if◌then◌else◌, List, ◌++◌, length, Some, None, Result, Ok, Err}
+use Rattle.vb_diag.specs.Broken.{IsLeast, InFile, OfRule}
 use Rattle.vb_text.specs.Names.{Extends}
 use Rattle.vb_syntax.specs.declared.tokens.Line.{Line}
-use Rattle.vb_lexer.specs.{declared.{error.LexErr.{LexErr, TheVariants.{Refused, Memory}}, piece.{Before.Before, Fault.TheVariants.Region}, reader.Broken.Broken, lines.Progress.Progress}, Characters.Character, Pieces.{Part, Falls, file_front}, Lines.{Item, items_from, marks_from, grouped, AreLines, SomeLineBreaks, RegionBreaks, IsNotAfter, fault_rule, with_parts}, Reader.{Reads, lesser_of}, Regions.{Tracks, AreBefore}}
+use Rattle.vb_lexer.specs.{declared.{error.LexErr.{LexErr, TheVariants.{Refused, Memory}}, piece.Before.Before, lines.Progress.Progress}, Characters.Character, Pieces.{Part, Falls, file_front}, Lines.{Item, items_from, marks_from, grouped, AreLines, SomeLineBreaks, RegionBreaks, with_parts}, Reader.Reads, Regions.{Tracks, AreBefore}}
 
 -- items and marks of a file break the rule in the line
 abbrev pub FileBreaks : List Item → List (ℕ × Bool) → ℕ → ℕ → Type 0
-FileBreaks items marks line rule = SomeLineBreaks (grouped items) line rule ⊎ ((rule ≡ 9) × RegionBreaks marks line)
+FileBreaks items marks line rule = SomeLineBreaks (grouped items) line rule ⊎ OfRule 9 (RegionBreaks marks) line rule
 
 -- What was read of a text, and what is left of it; the table was another one before.
 pub record ReadTo (earlier table : List (List ℕ)) (text rest : List Character) (before : Before) (p : Progress) : Type 0 where
@@ -25,15 +25,6 @@ pub record ReadTo (earlier table : List (List ℕ)) (text rest : List Character)
 
 -- what the end of a file answers
 abbrev pub Finishes : List (List ℕ) → ℕ → List Item → List (ℕ × Bool) → Result (List Line) LexErr → Type 0
-Finishes table file items marks (Ok lines) = AreLines table file (grouped items) lines × ((line rule : ℕ) → FileBreaks items marks line rule → ⊥)
-Finishes table file items marks (Err (Refused r)) =
-    (r.file ≡ file) × FileBreaks items marks r.line r.rule × ((line rule : ℕ) → FileBreaks items marks line rule → IsNotAfter r.line r.rule line rule)
+Finishes table file items marks (Ok lines) = AreLines table file (grouped items) lines × IsLeast (InFile file (FileBreaks items marks)) None
+Finishes table file items marks (Err (Refused r)) = IsLeast (InFile file (FileBreaks items marks)) (Some r)
 Finishes table file items marks (Err Memory) = Unit {0}
-
--- the least of the rules that lines break, with the first line that breaks the rule of regions
-abbrev pub least_with : Option Broken → Option ℕ → Option Broken
-least_with least None = least
-least_with least (Some line) = lesser_of least line Region
-
-abbrev pub refusal_with : ℕ → Broken → Refusal
-refusal_with file b = record { rule = fault_rule b.fault; file = file; line = b.line }

@@ -1,7 +1,8 @@
 -- What a reader of pieces holds of the items that it has read.
-use Rattle.std.specs.Prelude.{◌≡◌, ℕ, Bool, true, false, ◌&&◌, ◌||◌, ◌==◌, nat_lt, nat_le, if◌then◌else◌, List, [], ◌∷◌, ◌++◌, length, Option, Some, None}
+use Rattle.std.specs.Prelude.{◌≡◌, ℕ, Bool, true, false, ◌&&◌, nat_lt, if◌then◌else◌, List, [], ◌∷◌, ◌++◌, length, Option, Some, None}
+use Rattle.vb_diag.specs.{declared.refusal.Refusal.Refusal, Broken.{IsLeast, InFile, lesser, broken_at}}
 use Rattle.vb_syntax.specs.declared.tokens.{Token.Token, Line.Line}
-use Rattle.vb_lexer.specs.{declared.{piece.{Piece.Piece, Fault.{Fault, TheVariants.LongLine}}, reader.{Reader.Reader, Broken.Broken}}, Characters.Character, Pieces.Part, Lines.{Item, item, is_item, is_fault, goes_on, joined, grouped, AreTokens, AreLines, SomeLineBreaks, IsNotAfter, most_tokens, fault_rule}}
+use Rattle.vb_lexer.specs.{declared.{piece.{Piece.Piece, Fault.{Fault, TheVariants.LongLine}}, reader.Reader.Reader}, Characters.Character, Pieces.Part, Lines.{Item, item, is_item, is_fault, goes_on, joined, grouped, AreTokens, AreLines, SomeLineBreaks, most_tokens, fault_rule}}
 
 -- each item and the next are joined
 abbrev pub Chain : Item → List Item → Type 0
@@ -17,11 +18,6 @@ abbrev pub IsHand : Reader → List Item → Type 0
 IsHand r [] = Unit {0}
 IsHand r (a ∷ hs) = Chain a hs × (r.start ≡ a.line) × (goes_on (last_of a hs).part.piece ≡ r.goes_on) × (is_fault (last_of a hs).part.piece ≡ false)
 
--- the least of the broken rules, or that there is none
-abbrev pub IsLeast : (ℕ → ℕ → Type 0) → Option Broken → Type 0
-IsLeast broken None = (line rule : ℕ) → broken line rule → ⊥
-IsLeast broken (Some b) = broken b.line (fault_rule b.fault) × ((line rule : ℕ) → broken line rule → IsNotAfter b.line (fault_rule b.fault) line rule)
-
 -- The items that were read: logical lines that are whole, and the one at hand.
 pub record Reads (table : List (List ℕ)) (r : Reader) (items : List Item) : Type 0 where
   pub whole : List (List Item)
@@ -30,24 +26,19 @@ pub record Reads (table : List (List ℕ)) (r : Reader) (items : List Item) : Ty
   pub is_hand : IsHand r hand
   pub tokens : AreTokens table hand r.tokens
   pub lines : r.least ≡ None → AreLines table r.file whole r.lines
-  pub least : IsLeast (SomeLineBreaks whole) r.least
+  pub least : IsLeast (InFile r.file (SomeLineBreaks whole)) r.least
 
--- a broken rule is told before, or is, another in a line
-abbrev pub told_first : Broken → ℕ → Fault → Bool
-told_first known line fault = nat_lt known.line line || (known.line == line && nat_le (fault_rule known.fault) (fault_rule fault))
-
--- the lesser of two broken rules
-abbrev pub lesser_of : Option Broken → ℕ → Fault → Option Broken
-lesser_of None line fault = Some (record { line = line; fault = fault })
-lesser_of (Some least) line fault = if told_first least line fault then Some least else Some (record { line = line; fault = fault })
+-- the least of the broken rules, where a line breaks one more
+abbrev pub with_broken : Option Refusal → ℕ → ℕ → Fault → Option Refusal
+with_broken least file line fault = lesser least (broken_at file (fault_rule fault) (Some line))
 
 -- the line of the tokens at hand, if it is one
 abbrev pub closed_line : ℕ → ℕ → List Token → List Line
 closed_line file start [] = []
 closed_line file start (t ∷ ts) = if nat_lt most_tokens (length (t ∷ ts)) then [] else record { file = file; number = start; tokens = t ∷ ts } ∷ []
 
-abbrev pub closed_least : Option Broken → ℕ → List Token → Option Broken
-closed_least least start ts = if nat_lt most_tokens (length ts) then lesser_of least start LongLine else least
+abbrev pub closed_least : Option Refusal → ℕ → ℕ → List Token → Option Refusal
+closed_least least file start ts = if nat_lt most_tokens (length ts) then with_broken least file start LongLine else least
 
 -- a line ends before an item
 abbrev pub parts_lines : Reader → Bool → Bool

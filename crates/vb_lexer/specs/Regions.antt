@@ -7,11 +7,6 @@ abbrev pub AreBefore : List (ℕ × Bool) → ℕ → Type 0
 AreBefore [] line = Unit {0}
 AreBefore (m ∷ ms) line = (m.0 < line) × AreBefore ms line
 
--- no line breaks the rule, or this is the first that does
-abbrev pub IsFirstBreak : List (ℕ × Bool) → Option ℕ → Type 0
-IsFirstBreak marks None = (line : ℕ) → RegionBreaks marks line → ⊥
-IsFirstBreak marks (Some first) = RegionBreaks marks first × ((line : ℕ) → RegionBreaks marks line → first ≤ line)
-
 -- no region is open
 pub record IsClosed (marks : List (ℕ × Bool)) : Type 0 where
   pub no_unclosed : (line : ℕ) → IsUnclosed marks line → ⊥

@@ -166,29 +166,31 @@ bits_bound UInteger = 2 ^ 32
 bits_bound Long = 2 ^ 64
 bits_bound ULong = 2 ^ 64
 
-abbrev pub literal : IntegerType → ℤ → IntegerLiteral
-literal t v = record { kind = t; value = v }
+abbrev pub literal : IntegerType → ℤ → Bool → IntegerLiteral
+literal t v digit = record { kind = t; value = v; is_digit = digit }
 
 -- the value of these bits, in two's complement
 abbrev pub bits_value : IntegerType → ℕ → ℤ
 bits_value t n = if nat_lt n (decimal_bound t) then pos n else negsuc (bits_bound t - 1 - n)
 
-abbrev pub decimal_literal : Option IntegerType → ℕ → Option IntegerLiteral
-decimal_literal (Some t) n = if nat_lt n (decimal_bound t) then Some (literal t (pos n)) else None
-decimal_literal None n =
-    if nat_lt n (decimal_bound Integer) then Some (literal Integer (pos n))
-    else if nat_lt n (decimal_bound Long) then Some (literal Long (pos n)) else None
+-- the literal of so many decimal digits, whose number is n
+abbrev pub decimal_literal : Option IntegerType → ℕ → ℕ → Option IntegerLiteral
+decimal_literal (Some t) digits n = if nat_lt n (decimal_bound t) then Some (literal t (pos n) false) else None
+decimal_literal None digits n =
+    if nat_lt n (decimal_bound Integer) then Some (literal Integer (pos n) (digits == 1))
+    else if nat_lt n (decimal_bound Long) then Some (literal Long (pos n) (digits == 1)) else None
 
 abbrev pub bits_literal : Option IntegerType → ℕ → Option IntegerLiteral
-bits_literal (Some t) n = if nat_lt n (bits_bound t) then Some (literal t (bits_value t n)) else None
+bits_literal (Some t) n = if nat_lt n (bits_bound t) then Some (literal t (bits_value t n) false) else None
 bits_literal None n =
-    if nat_lt n (bits_bound Integer) then Some (literal Integer (bits_value Integer n))
-    else if nat_lt n (bits_bound Long) then Some (literal Long (bits_value Long n)) else None
+    if nat_lt n (bits_bound Integer) then Some (literal Integer (bits_value Integer n) false)
+    else if nat_lt n (bits_bound Long) then Some (literal Long (bits_value Long n) false) else None
 
-unfoldable pub literal_of : Base → Option IntegerType → ℕ → Option IntegerLiteral
-literal_of Decimal t n = decimal_literal t n
-literal_of Hexadecimal t n = bits_literal t n
-literal_of Octal t n = bits_literal t n
+-- the literal of so many digits, whose number is n
+unfoldable pub literal_of : Base → Option IntegerType → ℕ → ℕ → Option IntegerLiteral
+literal_of Decimal t digits n = decimal_literal t digits n
+literal_of Hexadecimal t digits n = bits_literal t n
+literal_of Octal t digits n = bits_literal t n
 
 abbrev pub integer_or_fault : Option IntegerLiteral → ℕ → List Character → Found
 integer_or_fault None n text = fault broken.NumberLiteral text
@@ -198,7 +200,7 @@ integer_or_fault (Some l) n text = found (piece.Integer l) n
 unfoldable pub number_of : Base → ℕ → ℕ → Option (List ℕ × IntegerType) → List Character → Found
 number_of base mark n suffix text =
     if n == 0 then fault broken.NumberLiteral text
-    else integer_or_fault (literal_of base (suffix_type suffix) (value_from (base_number base) 0 (take n (drop mark text)))) (mark + n + suffix_len suffix) text
+    else integer_or_fault (literal_of base (suffix_type suffix) n (value_from (base_number base) 0 (take n (drop mark text)))) (mark + n + suffix_len suffix) text
 
 abbrev pub digits_len : Base → ℕ → List Character → ℕ
 digits_len base mark text = run_len (is_digit base) (drop mark text)

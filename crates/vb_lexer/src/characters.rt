@@ -329,3 +329,16 @@ pub fn is_readable(text: &[Option<char>]) -> bool
     }
     true
 }
+
+/// Whether each character is one of ASCII.
+pub fn is_ascii(text: &[Option<char>]) -> bool
+    ensures { result ≡ spec.is_ascii text.now }
+{
+    for character in text {
+        match character {
+            Some(c) if c.is_ascii() => {}
+            _ => return false,
+        }
+    }
+    true
+}

@@ -1,5 +1,7 @@
 // What callers' proofs may hold of the lines of a file.
-ghost use Rattle.std.specs.Prelude.{◌≡◌, ◌∷◌, ◌++◌, ◌||◌, ℕ, true, List};
+ghost use Rattle.std.specs.Prelude.{◌≡◌, ◌∷◌, ◌++◌, ◌||◌, ℕ, true, List, Option as Optional};
+ghost use Rattle.vb_diag.specs.declared.refusal.Refusal.{Refusal as OneRefusal};
+ghost use Rattle.vb_diag.specs.Broken.{IsLeast, InFile};
 ghost use Rattle.vb_text.specs.Names.{AreApart, Extends};
 ghost use Rattle.vb_syntax.specs.declared.tokens.Line.{Line};
 ghost use Rattle.vb_lexer.specs.Characters.{Character};
@@ -25,9 +27,9 @@ pub fn lines_or_refusal()
     ensures { (table : List (List ℕ)) (file : ℕ) (bytes : List ℕ) (lines : List Line) (line rule : ℕ) → Lexed table file bytes lines → Breaks bytes line rule → ⊥ }
 {}
 
-/// A law for callers' proofs: one rule in one line is the least that a file breaks. It does nothing.
+/// A law for callers' proofs: a file has one least refusal, or none. It does nothing.
 pub fn one_refusal()
-    ensures { (bytes : List ℕ) (line rule other_line other_rule : ℕ) → Breaks bytes line rule → Breaks bytes other_line other_rule → (line ≡ other_line) × (rule ≡ other_rule) }
+    ensures { (file : ℕ) (bytes : List ℕ) (first other : Optional OneRefusal) → IsLeast (InFile file (Breaks bytes)) first → IsLeast (InFile file (Breaks bytes)) other → first ≡ other }
 {}
 
 /// A law for callers' proofs: put one after another, the pieces of a text spell it. It does nothing.

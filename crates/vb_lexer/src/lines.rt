@@ -1,25 +1,26 @@
 // The logical lines of a file.
-ghost use Rattle.std.specs.Prelude.{◌≡◌, ◌⊎◌, ◌≤◌, ◌<◌, ◌+◌, ◌^◌, ◌-◌, ◌++◌, ◌∷◌, [], ℕ, Bool, true, List, length, take, drop, IfOk, OnOk, OnErr, Err, Some};
+ghost use Rattle.std.specs.Prelude.{◌≡◌, ◌⊎◌, ◌≤◌, ◌<◌, ◌+◌, ◌^◌, ◌-◌, ◌++◌, ◌∷◌, [], ℕ, Bool, true, List, length, take, drop, IfOk, OnOk, OnErr, Err, Some, None};
 ghost use Rattle.vb_text.specs.Names.{Extends};
 ghost use Rattle.vb_text.specs.Units.{most_units};
 ghost use Rattle.vb_diag.specs.declared.refusal.Refusal.{Refusal as OneRefusal};
+ghost use Rattle.vb_diag.specs.Broken.{IsLeast, InFile};
 ghost use Rattle.vb_lexer.specs.declared.piece.Piece.TheVariants as form;
 ghost use Rattle.vb_lexer.specs.Tokens.{units_of};
 ghost use Rattle.vb_lexer.specs.Pieces.{Part};
 ghost use Rattle.vb_lexer.specs.Lines.{Item, items_from, mark_of, lines_in, with_piece, LexedFrom, Breaks};
 ghost use Rattle.vb_lexer.specs.Reader.{Reads, part, items_here};
 ghost use Rattle.vb_lexer.specs.Regions.{Tracks, AreBefore};
-ghost use Rattle.vb_lexer.specs.Progress.{Finishes, least_with, refusal_with};
+ghost use Rattle.vb_lexer.specs.Progress.{Finishes};
 
 use crate::characters::{decoded, without_mark};
 use crate::error::LexErr;
 use crate::piece::{Before, Fault, Piece, rule_of};
 use crate::pieces::{behind_piece, piece_at};
-use crate::reader::{Broken, Reader, lesser};
+use crate::reader::Reader;
 use crate::regions::Regions;
 use crate::token::token_of;
 use std::alloc::{AllocError, Global};
-use vb_diag::Refusal;
+use vb_diag::{broken_at, lesser};
 use vb_syntax::Lines;
 use vb_text::NameTable;
 
@@ -105,30 +106,11 @@ impl Progress {
             least,
             ..
         } = reader;
-        match least_of(least, regions.broken()) {
-            Some(broken) => Err(LexErr::Refused(refusal_of(file, broken))),
+        let region = broken_at(file, rule_of(Fault::Region), regions.broken());
+        match lesser(least, region) {
+            Some(refusal) => Err(LexErr::Refused(refusal)),
             None => Ok(lines),
         }
-    }
-}
-
-// The least of the rules that lines break, with the first line that breaks the rule of regions.
-fn least_of(least: Option<Broken>, region: Option<u32>) -> Option<Broken>
-    ensures { result ≡ least_with least region }
-{
-    match region {
-        Some(line) => lesser(least, line, Fault::Region),
-        None => least,
-    }
-}
-
-fn refusal_of(file: u32, broken: Broken) -> Refusal
-    ensures { result ≡ refusal_with file broken }
-{
-    Refusal {
-        rule: rule_of(broken.fault),
-        file,
-        line: broken.line,
     }
 }
 
@@ -137,12 +119,13 @@ fn refusal_of(file: u32, broken: Broken) -> Refusal
 /// The bytes are UTF-8, at most 4,194,304 of them; a byte order mark at their front is passed over. The words that are
 /// names are added to `names`, which may have grown also where the answer is an error.
 ///
-/// `Refused` comes exactly where the text breaks a lexical rule, with the least line in which one is broken and the least
-/// rule that is broken there. `Memory` is want of memory.
+/// `Refused` comes exactly where the text breaks a lexical rule, with the least refusal of those that it breaks: by the line,
+/// and then by the number of the rule. `Memory` is want of memory.
 pub fn lex(alloc: Global, file: u32, bytes: &[u8], names: &mut NameTable) -> Result<Lines, LexErr>
     requires { length bytes.now ≤ 4194304 }
     ensures lexed { IfOk result (λ lines. LexedFrom names.old names.new file bytes.now lines) }
-    ensures refused { (refusal : OneRefusal) → result ≡ Err (LexErr.Refused refusal) → (refusal.file ≡ file) × Breaks bytes.now refusal.line refusal.rule }
+    ensures refused { (refusal : OneRefusal) → result ≡ Err (LexErr.Refused refusal) → IsLeast (InFile file (Breaks bytes.now)) (Some refusal) }
+    ensures sound { IfOk result (λ lines. IsLeast (InFile file (Breaks bytes.now)) None) }
     ensures names { Extends names.new names.old }
 {
     let all = decoded(alloc, bytes)?;

@@ -128,17 +128,22 @@ fn bits_value(kind: IntegerType, number: u64) -> i128
     -1 - over as i128
 }
 
-fn decimal_literal(kind: Option<IntegerType>, number: u64) -> Option<IntegerLiteral>
-    ensures { result ≡ spec.decimal_literal kind number }
+// The literal of so many decimal digits.
+fn decimal_literal(kind: Option<IntegerType>, digits: usize, number: u64) -> Option<IntegerLiteral>
+    ensures { result ≡ spec.decimal_literal kind digits number }
 {
+    let is_digit = kind.is_none() && digits == 1;
     let kind = match kind {
         Some(kind) => kind,
         None if u128::from(number) < decimal_bound(IntegerType::Integer) => IntegerType::Integer,
         None => IntegerType::Long,
     };
     if u128::from(number) < decimal_bound(kind) {
-        let value = i128::from(number);
-        Some(IntegerLiteral { kind, value })
+        Some(IntegerLiteral {
+            kind,
+            value: i128::from(number),
+            is_digit,
+        })
     } else {
         None
     }
@@ -153,20 +158,28 @@ fn bits_literal(kind: Option<IntegerType>, number: u64) -> Option<IntegerLiteral
         None => IntegerType::Long,
     };
     if u128::from(number) < bits_bound(kind) {
-        let value = bits_value(kind, number);
-        Some(IntegerLiteral { kind, value })
+        Some(IntegerLiteral {
+            kind,
+            value: bits_value(kind, number),
+            is_digit: false,
+        })
     } else {
         None
     }
 }
 
-/// The literal of this type and number, if the type has it.
+/// The literal of so many digits with this type and number, if the type has it.
 #[tactic(auto, unfolding(crate::specs::Tokens::literal_of))]
-pub fn literal_of(base: Base, kind: Option<IntegerType>, number: u64) -> Option<IntegerLiteral>
-    ensures { result ≡ spec.literal_of base kind number }
+pub fn literal_of(
+    base: Base,
+    kind: Option<IntegerType>,
+    digits: usize,
+    number: u64,
+) -> Option<IntegerLiteral>
+    ensures { result ≡ spec.literal_of base kind digits number }
 {
     match base {
-        Base::Decimal => decimal_literal(kind, number),
+        Base::Decimal => decimal_literal(kind, digits, number),
         Base::Hexadecimal | Base::Octal => bits_literal(kind, number),
     }
 }
@@ -177,10 +190,10 @@ fn literal_in(
     kind: Option<IntegerType>,
     digits: &[Option<char>],
 ) -> Option<IntegerLiteral>
-    ensures { result ≡ spec.literal_of base kind (value_from (spec.base_number base) 0 digits.now) }
+    ensures { result ≡ spec.literal_of base kind (length digits.now) (value_from (spec.base_number base) 0 digits.now) }
 {
     match value_of(base, digits) {
-        Some(number) => literal_of(base, kind, number),
+        Some(number) => literal_of(base, kind, digits.len(), number),
         None => None,
     }
 }

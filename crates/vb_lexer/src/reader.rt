@@ -5,24 +5,17 @@ ghost use Rattle.vb_lexer.specs.declared.piece.Piece.TheVariants as piece;
 ghost use Rattle.vb_lexer.specs.Characters.{Character};
 ghost use Rattle.vb_lexer.specs.Pieces.{Part};
 ghost use Rattle.vb_lexer.specs.Lines as spec;
-ghost use Rattle.vb_lexer.specs.Lines.{Item, item, IsToken, is_token, fault_rule};
-ghost use Rattle.vb_lexer.specs.Reader.{Reads, told_first, lesser_of, closed_line, closed_least, parts_lines, items_here};
+ghost use Rattle.vb_lexer.specs.Lines.{Item, item, IsToken, is_token};
+ghost use Rattle.vb_lexer.specs.Reader.{Reads, with_broken as spec_with_broken, closed_line, closed_least, parts_lines, items_here};
 
 use crate::piece::{Fault, Piece, rule_of};
-use sqlite_items::Items;
 use std::alloc::{AllocError, Global};
 use std::mem;
-use vb_syntax::{Keyword, Line, Symbol, Token};
+use vb_diag::{Refusal, broken_at, lesser};
+use vb_syntax::{Items, Keyword, Line, Symbol, Token};
 
 // The most tokens of a logical line.
 const MOST_TOKENS: usize = 4096;
-
-/// A rule that a line breaks.
-#[derive(Clone, Copy, Debug, PartialEq, Eq)]
-pub struct Broken {
-    pub line: u32,
-    pub fault: Fault,
-}
 
 /// The logical lines that were read of a file.
 #[derive(Drop)]
@@ -40,7 +33,7 @@ pub struct Reader {
     /// The number of a logical line that would begin here.
     pub line: u32,
     /// The least rule that a logical line breaks.
-    pub least: Option<Broken>,
+    pub least: Option<Refusal>,
 }
 
 // Whether a line goes on behind a token.
@@ -78,28 +71,11 @@ fn closes(piece: Piece) -> bool
     )
 }
 
-// The number of a rule.
-fn number_of(fault: Fault) -> u16
-    ensures { result ≡ fault_rule fault }
+// The least of the broken rules, where a line of the file breaks one more.
+fn with_broken(least: Option<Refusal>, file: u32, line: u32, fault: Fault) -> Option<Refusal>
+    ensures { result ≡ spec_with_broken least file line fault }
 {
-    rule_of(fault).number()
-}
-
-// Whether a broken rule is told before, or is, another in a line.
-fn is_not_after(known: Broken, line: u32, fault: Fault) -> bool
-    ensures { result ≡ told_first known line fault }
-{
-    known.line < line || (known.line == line && number_of(known.fault) <= number_of(fault))
-}
-
-/// The lesser of two broken rules, by line and then by number.
-pub fn lesser(known: Option<Broken>, line: u32, fault: Fault) -> Option<Broken>
-    ensures { result ≡ lesser_of known line fault }
-{
-    match known {
-        Some(least) if is_not_after(least, line, fault) => Some(least),
-        _ => Some(Broken { line, fault }),
-    }
+    lesser(least, broken_at(file, rule_of(fault), Some(line)))
 }
 
 impl Reader {
@@ -125,7 +101,7 @@ impl Reader {
     /// The logical line at hand is whole.
     pub fn close(&mut self, alloc: Global) -> Result<(), AllocError>
         ensures lines { OnOk result (self.new.lines ≡ self.old.lines ++ closed_line self.old.file self.old.start self.old.tokens) }
-        ensures least { OnOk result (self.new.least ≡ closed_least self.old.least self.old.start self.old.tokens) }
+        ensures least { OnOk result (self.new.least ≡ closed_least self.old.least self.old.file self.old.start self.old.tokens) }
         ensures tokens { OnOk result (self.new.tokens ≡ []) }
         ensures start { self.new.start ≡ self.old.start }
         ensures goes_on { self.new.goes_on ≡ self.old.goes_on }
@@ -138,7 +114,7 @@ impl Reader {
         }
         let tokens = mem::replace(&mut self.tokens, Items::new(alloc));
         if tokens.len() > MOST_TOKENS {
-            self.least = lesser(self.least, self.start, Fault::LongLine);
+            self.least = with_broken(self.least, self.file, self.start, Fault::LongLine);
             return Ok(());
         }
         let (file, number) = (self.file, self.start);
@@ -153,7 +129,7 @@ impl Reader {
     // An item comes, before which the line goes on in any case where `closes` says so.
     fn begin_item(&mut self, alloc: Global, closes: bool) -> Result<(), AllocError>
         ensures lines { OnOk result (self.new.lines ≡ (if parts_lines self.old closes then self.old.lines ++ closed_line self.old.file self.old.start self.old.tokens else self.old.lines)) }
-        ensures least { OnOk result (self.new.least ≡ (if parts_lines self.old closes then closed_least self.old.least self.old.start self.old.tokens else self.old.least)) }
+        ensures least { OnOk result (self.new.least ≡ (if parts_lines self.old closes then closed_least self.old.least self.old.file self.old.start self.old.tokens else self.old.least)) }
         ensures tokens { OnOk result (self.new.tokens ≡ (if parts_lines self.old closes then [] else self.old.tokens)) }
         ensures fresh { OnOk result (self.new.tokens ≡ [] → self.new.start ≡ self.old.line) }
         ensures start { OnOk result ((self.new.tokens ≡ [] → ⊥) → self.new.start ≡ self.old.start) }
@@ -205,7 +181,7 @@ impl Reader {
         ensures file { self.new.file ≡ self.old.file }
     {
         self.begin_item(alloc, false)?;
-        self.least = lesser(self.least, self.start, fault);
+        self.least = with_broken(self.least, self.file, self.start, fault);
         self.close(alloc)?;
         self.breaks = false;
         Ok(())

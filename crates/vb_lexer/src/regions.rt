@@ -1,6 +1,8 @@
 // The lines that begin and end regions.
 ghost use Rattle.std.specs.Prelude.{◌≡◌, ℕ, Bool, true, false, List, [], ◌∷◌, ◌++◌};
-ghost use Rattle.vb_lexer.specs.Regions.{Tracks, AreBefore, IsFirstBreak};
+ghost use Rattle.vb_diag.specs.Broken.{IsLeastLine};
+ghost use Rattle.vb_lexer.specs.Lines.{RegionBreaks};
+ghost use Rattle.vb_lexer.specs.Regions.{Tracks, AreBefore};
 
 /// The regions of a file, as far as it was read.
 #[derive(Drop)]
@@ -52,7 +54,7 @@ impl Regions {
 
     /// The first line whose region isn't closed, or that ends a region that isn't open.
     pub fn broken(&self) -> Option<u32>
-        ensures { (marks : List (ℕ × Bool)) → Tracks self.now marks → IsFirstBreak marks result }
+        ensures { (marks : List (ℕ × Bool)) → Tracks self.now marks → IsLeastLine (RegionBreaks marks) result }
     {
         match self.unopened {
             Some(line) => Some(line),

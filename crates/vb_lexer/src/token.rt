@@ -8,7 +8,7 @@ ghost use Rattle.vb_lexer.specs.Tokens as tokens;
 ghost use Rattle.vb_lexer.specs.Lines.{IsToken, is_token, with_piece};
 ghost use Rattle.vb_lexer.specs.Reader.{part};
 
-use crate::characters::behind;
+use crate::characters::{behind, is_ascii};
 use crate::literals::units_of;
 use crate::piece::Piece;
 use std::alloc::{AllocError, Global};
@@ -64,6 +64,9 @@ fn text_of(alloc: Global, content: &[Option<char>]) -> Result<Text, AllocError>
 }
 
 /// The token of a piece with its characters, if it is a token. `word` is room for the spelling of names.
+///
+/// A name that has a character outside ASCII is an escaped one: the words of the grammar are matched by their ASCII case alone, while
+/// a table of names also takes `ſtrict` for `strict`.
 pub fn token_of(
     alloc: Global,
     names: &mut NameTable,
@@ -78,7 +81,8 @@ pub fn token_of(
     ensures grown { OnOk result (names.new ≡ with_piece names.old piece characters.now) }
 {
     let token = match piece {
-        Piece::Name => Token::Name(name_of(names, word, characters)?),
+        Piece::Name if is_ascii(characters) => Token::Name(name_of(names, word, characters)?),
+        Piece::Name => Token::EscapedName(name_of(names, word, characters)?),
         Piece::EscapedName => Token::EscapedName(name_of(names, word, inside(characters))?),
         Piece::Keyword(keyword) => Token::Keyword(keyword),
         Piece::Integer(literal) => Token::Integer(literal),

@@ -1,6 +1,6 @@
 use Rattle.std.proofs.Common.{◌≡◌, length, take, drop, ap, sym, ◌∙◌, subst, length-drop, arith}
 use Rattle.vb_lexer.specs.{Characters.{IsText, without_mark}, Pieces.behind, Lines.with_piece, Reader.part, declared.piece.Found.Found, Progress.{ReadTo, Finishes}}
-use Rattle.vb_lexer.proofs.{Runs.empty_of, Bounds.piece_bounds, Lengths.text_len, TextPieces.text_short, Steps.{TakenBy, read_step}, Files.{nothing_read, file_lines, file_refused}, Unique.{extends_self, extends_trans}}
+use Rattle.vb_lexer.proofs.{Runs.empty_of, Bounds.piece_bounds, Lengths.text_len, TextPieces.text_short, Steps.{TakenBy, read_step}, Files.{nothing_read, file_lines, file_refused, file_sound}, Unique.{extends_self, extends_trans}}
 use Rattle.vb_lexer.proofs.lines.lex.Goals as goal
 
 pub loop-rest-init : goal.loop-rest-init
@@ -47,13 +47,16 @@ loop-rest-preserved c = record {
   file = c.take.ensures.file ∙ c.loop-rest.invariant.file;
 }
 
-pub returns-clause-lexed : goal.returns-clause-lexed
-returns-clause-lexed c =
+lexed : goal.returns-clause-lexed
+lexed c =
     let is : IsText c.args.bytes.now c.without_mark-text.result.now = (c.in_ok-all.all.items, c.in_ok-all.ensures, c.without_mark-text.ensures ∙ ap (λ us. without_mark us) c.deref.ensures.value) in
     let none = empty_of c.loop-rest.rest.now (omega arith) in
     file_lines c.args.names.now c.loop-rest.names c.args.file c.args.bytes.now c.without_mark-text.result.now c.loop-rest.before c.loop-rest.progress c.finish.result is
     (subst (λ us. ReadTo c.args.names.now c.loop-rest.names c.without_mark-text.result.now us c.loop-rest.before c.loop-rest.progress) none c.loop-rest.invariant.read)
     (λ items marks reads tracks. subst (λ f. Finishes c.loop-rest.names f items marks c.finish.result) c.loop-rest.invariant.file (c.finish.ensures c.loop-rest.names items marks reads tracks))
+
+pub returns-clause-lexed : goal.returns-clause-lexed
+returns-clause-lexed c = lexed c
 
 pub returns-clause-refused : goal.returns-clause-refused
 returns-clause-refused c =
@@ -62,6 +65,9 @@ returns-clause-refused c =
     file_refused c.args.names.now c.loop-rest.names c.args.file c.args.bytes.now c.without_mark-text.result.now c.loop-rest.before c.loop-rest.progress c.finish.result is
     (subst (λ us. ReadTo c.args.names.now c.loop-rest.names c.without_mark-text.result.now us c.loop-rest.before c.loop-rest.progress) none c.loop-rest.invariant.read)
     (λ items marks reads tracks. subst (λ f. Finishes c.loop-rest.names f items marks c.finish.result) c.loop-rest.invariant.file (c.finish.ensures c.loop-rest.names items marks reads tracks))
+
+pub returns-clause-sound : goal.returns-clause-sound
+returns-clause-sound c = file_sound c.args.names.now c.loop-rest.names c.args.file c.args.bytes.now c.finish.result (lexed c)
 
 pub returns-clause-names : goal.returns-clause-names
 returns-clause-names c = c.loop-rest.invariant.names
