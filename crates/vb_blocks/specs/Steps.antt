@@ -184,13 +184,12 @@ takes_accessor accessor.AddHandler e = is_missing e.add_handler
 takes_accessor accessor.RemoveHandler e = is_missing e.remove_handler
 takes_accessor accessor.RaiseEvent e = is_missing e.raise_event
 
-abbrev pub event_whole : EventParts → Option EventAccessor → Option EventAccessor → Option EventAccessor → Option Turn
-event_whole e (Some a) (Some b) (Some c) = Some (turn.Closes (is.Member (member_of e.line (e.modifiers, member.CustomEvent e.name e.delegate a b c))))
-event_whole e a b c = None
+abbrev pub custom_event : EventParts → Member
+custom_event e = member_of e.line (e.modifiers, member.CustomEvent e.name e.delegate e.add_handler e.remove_handler e.raise_event)
 
 abbrev pub event_turn : EventParts → ℕ → Item → Option Turn
 event_turn e line (item.Declares (header.EventAccessor k ps)) = if takes_accessor k e then Some (turn.Opens (frame.Event e) (body (scope.Accessor (accessor_header.Event line k ps)))) else None
-event_turn e line (item.End word.Event) = event_whole e e.add_handler e.remove_handler e.raise_event
+event_turn e line (item.End word.Event) = Some (turn.Closes (is.Member (custom_event e)))
 event_turn e line x = None
 
 -- the frame that a member with a block begins; one that must be overridden has none
@@ -490,10 +489,6 @@ abbrev pub accessor_end : AccessorHeader → List Statement → Option BlockWord
 accessor_end (accessor_header.Get l a) ss w = if is_word word.Get w then Some (turn.Closes (is.Get (record { line = l; access = a; body = ss }))) else None
 accessor_end (accessor_header.Set l a ps) ss w = if is_word word.Set w then Some (turn.Closes (is.Set (record { line = l; access = a; parameters = ps; body = ss }))) else None
 accessor_end (accessor_header.Event l k ps) ss w = if is_word (accessor_word k) w then Some (turn.Closes (is.Event k (record { line = l; parameters = ps; body = ss }))) else None
-
-abbrev pub custom_event : EventParts → Option EventAccessor → Option EventAccessor → Option EventAccessor → Option Member
-custom_event e (Some a) (Some b) (Some c) = Some (member_of e.line (e.modifiers, member.CustomEvent e.name e.delegate a b c))
-custom_event e a b c = None
 
 abbrev pub is_next : Item → Bool
 is_next (item.Next n) = true

@@ -2,7 +2,7 @@
 -- the beginning of the file. Each part of a tree is some rows, one behind the other, and the part knows the line of its first.
 use Rattle.std.specs.Prelude.{◌≡◌, ℕ, Bool, true, false, if◌then◌else◌, List, [], ◌∷◌, ◌++◌, Option, Some, None}
 use Rattle.vb_text.specs.declared.names.Name.{Name}
-use Rattle.vb_syntax.specs.{declared.{types.{TypeName.TypeName, TypeParameter.TypeParameter}, expression.Expr.Expr, statement.{CaseItem.CaseItem, CatchVariable.CatchVariable, StatementForm.StatementForm, Statement.Statement, ElseIfClause.{ElseIfClause, roll-ElseIfClause}, CaseClause.{CaseClause, roll-CaseClause}, CatchClause.{CatchClause, roll-CatchClause}, BlockClause.{BlockClause, roll-BlockClause}}, declaration.{Access.Access, Modifier.Modifier, Parameter.Parameter, GetAccessor.GetAccessor, SetAccessor.SetAccessor, EventAccessor.EventAccessor, MemberForm.MemberForm, Member.Member, ClassModifier.ClassModifier, ClassBase.ClassBase, InterfaceList.InterfaceList, InterfaceHeader.InterfaceHeader, InterfaceMember.InterfaceMember, DelegateKind.DelegateKind, TypeDeclaration.TypeDeclaration, OptionSetting.OptionSetting, OptionStatement.OptionStatement, ImportsStatement.ImportsStatement, SourceFile.SourceFile}, item.{PropertyHeader.PropertyHeader, EventAccessorKind.EventAccessorKind, DeclarationLine.DeclarationLine, BlockWord.BlockWord, Joint.Joint, Item.Item, Row.Row}}, Items.must_override}
+use Rattle.vb_syntax.specs.{declared.{types.{TypeName.TypeName, TypeParameter.TypeParameter}, expression.Expr.Expr, statement.{CaseItem.CaseItem, CatchVariable.CatchVariable, StatementForm.StatementForm, Statement.Statement, ElseIfClause.{ElseIfClause, roll-ElseIfClause}, CaseClause.{CaseClause, roll-CaseClause}, CatchClause.{CatchClause, roll-CatchClause}, BlockClause.{BlockClause, roll-BlockClause}}, declaration.{Access.Access, Modifier.Modifier, Parameter.Parameter, GetAccessor.GetAccessor, SetAccessor.SetAccessor, EventAccessor.EventAccessor, MemberForm.MemberForm, Member.Member, ClassModifier.ClassModifier, ClassBase.ClassBase, InterfaceList.InterfaceList, InterfaceHeader.InterfaceHeader, InterfaceMember.InterfaceMember, DelegateKind.DelegateKind, TypeDeclaration.TypeDeclaration, OptionSetting.OptionSetting, OptionStatement.OptionStatement, ImportsStatement.ImportsStatement, SourceFile.SourceFile}, item.{PropertyHeader.PropertyHeader, EventAccessorKind.EventAccessorKind, DeclarationLine.DeclarationLine, BlockWord.BlockWord, Joint.Joint, Item.Item, Row.Row}}, Items.{must_override, is_property_of_interface}}
 use Rattle.vb_syntax.specs.declared.statement.LocalModifier.TheVariants as local
 use Rattle.vb_syntax.specs.declared.statement.LoopTest.TheVariants as loop
 use Rattle.vb_syntax.specs.declared.statement.StatementForm.TheVariants as form
@@ -15,7 +15,6 @@ use Rattle.vb_syntax.specs.declared.item.DeclarationLine.TheVariants as header
 use Rattle.vb_syntax.specs.declared.item.BlockWord.TheVariants as word
 use Rattle.vb_syntax.specs.declared.item.Joint.TheVariants as joint
 use Rattle.vb_syntax.specs.declared.item.Item.TheVariants as item
-use Rattle.vb_ends.specs.Roles.{is_property_of_interface}
 
 -- a row, by its line, its item and what stands behind it
 abbrev pub row : ℕ → Item → Joint → Row
@@ -206,8 +205,8 @@ pub data IsMember : List Row → Member → Type 0 where
       → must_override ms ≡ false → IsGet gets get → IsSet sets set
       → IsMember (whole line (item.Declares (header.Property ms h)) ∷ (gets ++ (sets ++ whole last (item.End word.Property) ∷ [])))
       (member_of line (ms, member.Property h (Some (record { get = get; set = set }))))
-  custom_event : {line : ℕ} (last : ℕ) {ms : List Modifier} {n : Name} {t : TypeName} {rows : List Row} {add remove raise : EventAccessor}
-      → AreEventAccessors rows (Some add) (Some remove) (Some raise)
+  custom_event : {line : ℕ} (last : ℕ) {ms : List Modifier} {n : Name} {t : TypeName} {rows : List Row} {add remove raise : Option EventAccessor}
+      → AreEventAccessors rows add remove raise
       → IsMember (whole line (item.Declares (header.CustomEvent ms n t)) ∷ (rows ++ whole last (item.End word.Event) ∷ []))
       (member_of line (ms, member.CustomEvent n t add remove raise))
 

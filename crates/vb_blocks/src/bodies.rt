@@ -11,7 +11,6 @@ use crate::frame::{Frame, Turn};
 use crate::procedure_ends::procedure;
 use crate::scope::Scope;
 use crate::statements::opened;
-use crate::turns::refuse_in;
 use std::alloc::Global;
 use vb_syntax::{Block, Item};
 
@@ -26,7 +25,8 @@ pub fn body_turn(
     ensures { Gives (λ t. t) result (spec.body_turn scope body line item) }
 {
     if is_line(&scope) {
-        Err(refuse_in(Frame::Body(scope, body), item))
+        drop((scope, body, item));
+        Err(Fault::Grammar)
     } else {
         opened(alloc, scope, body, line, item)
     }
@@ -60,6 +60,9 @@ pub fn scope_turn(
             procedure(alloc, start, header.into_inner(), body, item)
         }
         Scope::Accessor(header) => accessor_turn(header, body, item),
-        Scope::Line(clause) => Err(refuse_in(Frame::Body(Scope::Line(clause), body), item)),
+        Scope::Line(clause) => {
+            drop((clause, body, item));
+            Err(Fault::Grammar)
+        }
     }
 }

@@ -9,11 +9,10 @@ use crate::scope::{IfClause, IfParts, Scope, SelectClause, SelectParts, TryClaus
 use crate::statements::begun;
 use crate::turns::closes_statement;
 use crate::words::{is_word, word_of};
-use sqlite_items::{Boxed, Items};
 use std::alloc::Global;
 use vb_syntax::{
-    Block, BlockClause, BlockWord, CaseClause, CaseItem, CatchClause, CatchVariable, ElseIfClause,
-    Expr, Item, Statement, StatementForm,
+    Block, BlockClause, BlockWord, Boxed, CaseClause, CaseItem, CatchClause, CatchVariable,
+    ElseIfClause, Expr, Item, Items, Statement, StatementForm,
 };
 
 // IF

@@ -7,7 +7,7 @@ ghost use Rattle.vb_blocks.specs.Words as words;
 
 use crate::fault::Fault;
 use crate::frame::Turn;
-use crate::turns::{closes_statement, refuse_behind, refuse_item};
+use crate::turns::closes_statement;
 use crate::words::{is_word, word_of};
 use std::alloc::Global;
 use vb_syntax::{
@@ -67,8 +67,8 @@ pub fn enclosed(
             closes_statement(alloc, may_end, Statement { line: start, form })
         }
         other => {
-            let _fault = refuse_item(other);
-            Err(refuse_behind(body, item))
+            drop((other, body, item));
+            Err(Fault::Grammar)
         }
     }
 }
@@ -109,7 +109,7 @@ fn next_variable(item: Item) -> Option<Name>
     match item {
         Item::Next(variable) => variable,
         other => {
-            let _fault = refuse_item(other);
+            drop(other);
             None
         }
     }
@@ -130,8 +130,8 @@ fn looped(
     match item {
         Item::Loop(bottom) => do_ended(alloc, start, top, body, line, bottom),
         other => {
-            drop(top);
-            Err(refuse_behind(body, other))
+            drop((top, body, other));
+            Err(Fault::Grammar)
         }
     }
 }

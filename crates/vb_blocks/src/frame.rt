@@ -1,11 +1,11 @@
 // What has been begun, with what stands in it so far.
 
 use crate::scope::Scope;
-use sqlite_items::{Boxed, Items};
 use vb_syntax::{
-    Access, Block, ClassBase, ClassModifier, EventAccessor, EventAccessorKind, Expr, GetAccessor,
-    ImportsStatement, InterfaceList, InterfaceMember, Member, Modifier, OptionStatement,
-    PropertyHeader, SetAccessor, Statement, TypeDeclaration, TypeName, TypeParameter,
+    Access, Block, Boxed, ClassBase, ClassModifier, EventAccessor, EventAccessorKind, Expr,
+    GetAccessor, ImportsStatement, InterfaceList, InterfaceMember, Items, Member, Modifier,
+    OptionStatement, PropertyHeader, SetAccessor, Statement, TypeDeclaration, TypeName,
+    TypeParameter,
 };
 use vb_text::Name;
 

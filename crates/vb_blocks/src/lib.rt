@@ -31,5 +31,5 @@ pub use scope::{
     TryParts,
 };
 pub use statements::{begun, simple};
-pub use turns::{closes_member, closes_type, given, opens, refuse, refuse_in, refuse_item};
+pub use turns::{closes_member, closes_type, given, opens};
 pub use words::is_word;

@@ -8,12 +8,11 @@ ghost use Rattle.vb_blocks.specs.Words as words;
 
 use crate::fault::Fault;
 use crate::frame::Turn;
-use crate::turns::{closes_member, refuse_behind, refuse_item};
+use crate::turns::closes_member;
 use crate::words::{is_word, word_of};
-use sqlite_items::Items;
 use std::alloc::Global;
 use vb_syntax::{
-    Block, BlockWord, DeclarationLine, Item, Member, MemberForm, Modifier, must_override,
+    Block, BlockWord, DeclarationLine, Item, Items, Member, MemberForm, Modifier, must_override,
 };
 
 /// An item behind the statements of a procedure.
@@ -28,11 +27,11 @@ pub fn procedure(
 {
     match header {
         Item::Declares(declaration) => {
-            procedure_end(alloc, start, declaration, body, word_of(item))
+            procedure_end(alloc, start, declaration.into_inner(), body, word_of(item))
         }
         other => {
-            let _fault = refuse_item(other);
-            Err(refuse_behind(body, item))
+            drop((other, body, item));
+            Err(Fault::Grammar)
         }
     }
 }
@@ -79,7 +78,10 @@ fn procedure_end(
             };
             ended(alloc, BlockWord::Function, word, line, modifiers, form)
         }
-        other => Err(refuse_behind(body, Item::Declares(other))),
+        other => {
+            drop((other, body));
+            Err(Fault::Grammar)
+        }
     }
 }
 

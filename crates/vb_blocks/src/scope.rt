@@ -1,9 +1,8 @@
 // What the statements of a block or of a clause are the body of.
 
-use sqlite_items::{Boxed, Items};
 use vb_syntax::{
-    Access, Block, CaseClause, CaseItem, CatchClause, CatchVariable, ElseIfClause,
-    EventAccessorKind, Expr, Item, Parameter,
+    Access, Block, Boxed, CaseClause, CaseItem, CatchClause, CatchVariable, ElseIfClause,
+    EventAccessorKind, Expr, Item, Items, Parameter,
 };
 
 /// What the statements that stand one behind the other are the body of.

@@ -9,9 +9,8 @@ use crate::fault::Fault;
 use crate::frame::{Frame, Turn};
 use crate::scope::{IfClause, Scope, TryClause};
 use crate::turns::opens;
-use sqlite_items::{Boxed, Items};
 use std::alloc::Global;
-use vb_syntax::{Block, Expr, Item, StatementForm};
+use vb_syntax::{Block, Boxed, Expr, Item, Items, StatementForm};
 
 /// The statement that an item is by itself, or the item.
 pub fn simple(item: Item) -> Result<StatementForm, Item>
@@ -43,7 +42,7 @@ pub fn simple(item: Item) -> Result<StatementForm, Item>
     }
 }
 
-/// The frame that a statement with blocks begins inside these statements, or what `turned` makes of the item.
+/// The frame that a statement with blocks begins inside these statements, or what the item does to the block that they stand in.
 pub fn opened(
     alloc: Global,
     scope: Scope,

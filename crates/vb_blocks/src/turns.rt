@@ -5,49 +5,8 @@ ghost use Rattle.vb_blocks.specs.Steps.{Gives};
 
 use crate::fault::Fault;
 use crate::frame::{Frame, Turn, Whole};
-use sqlite_items::Boxed;
 use std::alloc::Global;
-use vb_syntax::{Block, Item, Member, Statement, TypeDeclaration};
-
-/// What no row of the grammar leads to is let go.
-pub fn refuse(turn: Turn) -> Fault
-    ensures { result ≡ Fault.Grammar }
-{
-    drop(turn);
-    Fault::Grammar
-}
-
-/// An item that no row of the grammar has there is let go.
-pub fn refuse_item(item: Item) -> Fault
-    ensures { result ≡ Fault.Grammar }
-{
-    drop(item);
-    Fault::Grammar
-}
-
-/// A frame is let go behind a fault.
-pub fn lose(frame: Frame, fault: Fault) -> Fault
-    ensures { result ≡ fault }
-{
-    let _fault = refuse(Turn::Goes(frame));
-    fault
-}
-
-/// An item that doesn't stand in the frame.
-pub fn refuse_in(frame: Frame, item: Item) -> Fault
-    ensures { result ≡ Fault.Grammar }
-{
-    let _fault = refuse_item(item);
-    refuse(Turn::Goes(frame))
-}
-
-/// An item that doesn't stand behind these statements.
-pub fn refuse_behind(body: Block, item: Item) -> Fault
-    ensures { result ≡ Fault.Grammar }
-{
-    drop(body);
-    refuse_item(item)
-}
+use vb_syntax::{Block, Boxed, Item, Member, Statement, TypeDeclaration};
 
 /// What a row does, where it may stand.
 pub fn given(may_stand: bool, turn: Turn) -> Result<Turn, Fault>
@@ -56,7 +15,8 @@ pub fn given(may_stand: bool, turn: Turn) -> Result<Turn, Fault>
     if may_stand {
         Ok(turn)
     } else {
-        Err(refuse(turn))
+        drop(turn);
+        Err(Fault::Grammar)
     }
 }
 
@@ -66,7 +26,10 @@ pub fn opens(outer: Frame, inner: Result<Frame, Fault>) -> Result<Turn, Fault>
 {
     match inner {
         Ok(frame) => Ok(Turn::Opens(outer, frame)),
-        Err(fault) => Err(lose(outer, fault)),
+        Err(fault) => {
+            drop(outer);
+            Err(fault)
+        }
     }
 }
 

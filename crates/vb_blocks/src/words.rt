@@ -3,7 +3,6 @@ ghost use Rattle.std.specs.Prelude.{◌≡◌};
 ghost use Rattle.vb_blocks.specs.Steps as steps;
 ghost use Rattle.vb_blocks.specs.Words as spec;
 
-use crate::turns::refuse_item;
 use vb_syntax::{BlockWord, Item};
 
 /// The word behind `End`, if the item is one.
@@ -13,7 +12,7 @@ pub fn word_of(item: Item) -> Option<BlockWord>
     match item {
         Item::End(word) => Some(word),
         other => {
-            let _fault = refuse_item(other);
+            drop(other);
             None
         }
     }

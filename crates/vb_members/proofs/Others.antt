@@ -1,30 +1,15 @@
 -- A line among members that is no declaration of one without a block.
 use Rattle.std.proofs.Common.{◌≡◌, ℕ, Bool, true, false, cond, List, [], ◌∷◌, ◌++◌, Option, Some, None, Result, refl, sym, subst, ◌∙◌}
 use Rattle.vb_text.specs.declared.names.Name.{Name}
-use Rattle.vb_syntax.specs.declared.types.TypeName.{TypeName}
-use Rattle.vb_syntax.specs.declared.declarator.Declarator.{Declarator}
-use Rattle.vb_syntax.specs.declared.declaration.EventHandler.{EventHandler}
-use Rattle.vb_syntax.specs.declared.declaration.ImplementedMember.{ImplementedMember}
-use Rattle.vb_syntax.specs.declared.declaration.Modifier.{Modifier}
-use Rattle.vb_syntax.specs.declared.declaration.MemberForm.{MemberForm}
+use Rattle.vb_syntax.specs.{declared.{types.TypeName.TypeName, declarator.Declarator.Declarator, declaration.{EventHandler.EventHandler, ImplementedMember.ImplementedMember, Modifier.Modifier, MemberForm.MemberForm, Member.Member}, item.{PropertyHeader.PropertyHeader, DeclarationLine.DeclarationLine, Item.Item}}, Items.must_override}
 use Rattle.vb_syntax.specs.declared.declaration.MemberForm.TheVariants as member
-use Rattle.vb_syntax.specs.declared.declaration.Member.{Member}
-use Rattle.vb_syntax.specs.declared.item.PropertyHeader.{PropertyHeader}
-use Rattle.vb_syntax.specs.declared.item.DeclarationLine.{DeclarationLine}
 use Rattle.vb_syntax.specs.declared.item.DeclarationLine.TheVariants as header
-use Rattle.vb_syntax.specs.declared.item.Item.{Item}
 use Rattle.vb_syntax.specs.declared.item.Item.TheVariants as item
-use Rattle.vb_syntax.specs.Items.{must_override}
-use Rattle.vb_blocks.specs.declared.fault.Fault.{Fault}
+use Rattle.vb_blocks.specs.{declared.{fault.Fault.Fault, frame.{Frame.Frame, TypeHeader.TypeHeader, Turn.Turn}}, Trees.member_of, Steps.{Gives, body, header_turn, member_or_header, members_turn, procedure_turn}}
 use Rattle.vb_blocks.specs.declared.scope.Scope.TheVariants as scope
-use Rattle.vb_blocks.specs.declared.frame.Frame.{Frame}
 use Rattle.vb_blocks.specs.declared.frame.Frame.TheVariants as frame
-use Rattle.vb_blocks.specs.declared.frame.TypeHeader.{TypeHeader}
 use Rattle.vb_blocks.specs.declared.frame.TypeHeader.TheVariants as type_header
-use Rattle.vb_blocks.specs.declared.frame.Turn.{Turn}
 use Rattle.vb_blocks.specs.declared.frame.Turn.TheVariants as turn
-use Rattle.vb_blocks.specs.Trees.{member_of}
-use Rattle.vb_blocks.specs.Steps.{Gives, body, header_turn, member_or_header, members_turn, procedure_turn}
 
 module _ (h : TypeHeader) (ms : List Member) (line : ℕ) where
   with_block_or_not : (b : Bool) (x : Item) (m : List Modifier × MemberForm) (f : Frame)

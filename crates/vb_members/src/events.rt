@@ -3,15 +3,13 @@ ghost use Rattle.std.specs.Prelude.{◌≡◌};
 ghost use Rattle.vb_blocks.specs.Steps.{Gives};
 ghost use Rattle.vb_blocks.specs.Steps as spec;
 
-use sqlite_items::{Boxed, Items};
 use std::alloc::Global;
 use vb_blocks::{
-    AccessorHeader, EventParts, Fault, Frame, Scope, Turn, begun, closes_member, given, refuse,
-    refuse_in,
+    AccessorHeader, EventParts, Fault, Frame, Scope, Turn, begun, closes_member, given,
 };
 use vb_syntax::{
-    BlockWord, DeclarationLine, EventAccessor, EventAccessorKind, Item, Member, MemberForm,
-    Parameter,
+    BlockWord, Boxed, DeclarationLine, EventAccessor, EventAccessorKind, Item, Items, Member,
+    MemberForm, Parameter,
 };
 
 /// An item in an event with accessors.
@@ -24,9 +22,12 @@ pub fn event_turn(
     ensures { Gives (λ t. t) result (spec.event_turn parts line item) }
 {
     match item {
-        Item::Declares(declaration) => event_declares(alloc, parts, line, declaration),
+        Item::Declares(declaration) => event_declares(alloc, parts, line, declaration.into_inner()),
         Item::End(word) => event_end(alloc, parts, line, word),
-        other => Err(refuse_in(Frame::Event(parts), other)),
+        other => {
+            drop((parts, other));
+            Err(Fault::Grammar)
+        }
     }
 }
 
@@ -42,7 +43,10 @@ fn event_declares(
         DeclarationLine::EventAccessor(kind, parameters) => {
             event_accessor(alloc, parts, line, kind, parameters)
         }
-        other => Err(refuse_in(Frame::Event(parts), Item::Declares(other))),
+        other => {
+            drop((parts, other));
+            Err(Fault::Grammar)
+        }
     }
 }
 
@@ -87,35 +91,26 @@ fn event_end(
     ensures { Gives (λ t. t) result (spec.event_turn parts line (Item.End word)) }
 {
     match word {
-        BlockWord::Event => event_whole(alloc, parts.into_inner()),
-        _ => Err(refuse(Turn::Goes(Frame::Event(parts)))),
+        BlockWord::Event => closes_member(alloc, true, custom_event(parts.into_inner())),
+        _ => {
+            drop(parts);
+            Err(Fault::Grammar)
+        }
     }
 }
 
-fn event_whole(alloc: Global, parts: EventParts) -> Result<Turn, Fault>
-    ensures { Gives (λ t. t) result (spec.event_whole parts parts.add_handler parts.remove_handler parts.raise_event) }
+fn custom_event(parts: EventParts) -> Member
+    ensures { result ≡ spec.custom_event parts }
 {
-    match custom_event(parts) {
-        Some(member) => closes_member(alloc, true, member),
-        None => Err(Fault::Grammar),
-    }
-}
-
-fn custom_event(parts: EventParts) -> Option<Member>
-    ensures { result ≡ spec.custom_event parts parts.add_handler parts.remove_handler parts.raise_event }
-{
-    let add_handler = parts.add_handler?;
-    let remove_handler = parts.remove_handler?;
-    let raise_event = parts.raise_event?;
-    Some(Member {
+    Member {
         line: parts.line,
         modifiers: parts.modifiers,
         form: MemberForm::CustomEvent {
             name: parts.name,
             delegate: parts.delegate,
-            add_handler,
-            remove_handler,
-            raise_event,
+            add_handler: parts.add_handler,
+            remove_handler: parts.remove_handler,
+            raise_event: parts.raise_event,
         },
-    })
+    }
 }

@@ -3,14 +3,11 @@ ghost use Rattle.std.specs.Prelude.{◌≡◌, [], Some, None, if◌then◌else�
 ghost use Rattle.vb_blocks.specs.Steps.{Gives};
 ghost use Rattle.vb_blocks.specs.Steps as spec;
 
-use sqlite_items::{Boxed, Items};
 use std::alloc::Global;
-use vb_blocks::{
-    ClassParts, Fault, FileParts, Frame, InterfaceParts, Turn, TypeHeader, given, refuse_in,
-};
+use vb_blocks::{ClassParts, Fault, FileParts, Frame, InterfaceParts, Turn, TypeHeader, given};
 use vb_syntax::{
-    Access, ClassModifier, DeclarationLine, ImportsStatement, Item, OptionSetting, OptionStatement,
-    TypeDeclaration, TypeForm, TypeParameter,
+    Access, Boxed, ClassModifier, DeclarationLine, ImportsStatement, Item, Items, OptionSetting,
+    OptionStatement, TypeDeclaration, TypeForm, TypeParameter,
 };
 use vb_text::Name;
 
@@ -26,8 +23,11 @@ pub fn file_turn(
     match item {
         Item::Option(setting) => file_option(alloc, parts, line, setting),
         Item::Imports(namespaces) => file_imports(alloc, parts, line, namespaces),
-        Item::Declares(declaration) => file_declares(alloc, parts, line, declaration),
-        other => Err(refuse_in(Frame::File(parts), other)),
+        Item::Declares(declaration) => file_declares(alloc, parts, line, declaration.into_inner()),
+        other => {
+            drop((parts, other));
+            Err(Fault::Grammar)
+        }
     }
 }
 
@@ -130,7 +130,10 @@ fn file_declares(
             };
             Ok(Turn::Goes(with_type(alloc, parts, declaration)?))
         }
-        other => Err(refuse_in(Frame::File(parts), Item::Declares(other))),
+        other => {
+            drop((parts, other));
+            Err(Fault::Grammar)
+        }
     }
 }
 

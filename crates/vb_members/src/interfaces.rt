@@ -3,17 +3,13 @@ ghost use Rattle.std.specs.Prelude.{◌≡◌, Some};
 ghost use Rattle.vb_blocks.specs.Steps.{Gives};
 ghost use Rattle.vb_blocks.specs.Steps as spec;
 ghost use Rattle.vb_blocks.specs.Trees.{interface_member};
-ghost use Rattle.vb_ends.specs.Roles.{is_property_of_interface as is_plain_property};
 
-use sqlite_items::{Boxed, Items};
 use std::alloc::Global;
-use vb_blocks::{
-    Fault, Frame, InterfaceParts, Turn, closes_type, given, is_word, refuse, refuse_in, refuse_item,
-};
+use vb_blocks::{Fault, Frame, InterfaceParts, Turn, closes_type, given, is_word};
 use vb_syntax::{
-    BlockWord, DeclarationLine, FunctionKind, ImplementedMember, InterfaceHeader, InterfaceList,
-    InterfaceMember, Item, Modifier, NameModifier, PropertyHeader, TypeDeclaration, TypeForm,
-    TypeName,
+    BlockWord, Boxed, DeclarationLine, FunctionKind, ImplementedMember, InterfaceHeader,
+    InterfaceList, InterfaceMember, Item, Items, Modifier, NameModifier, PropertyHeader,
+    TypeDeclaration, TypeForm, TypeName,
 };
 
 /// An item in an interface.
@@ -26,12 +22,20 @@ pub fn interface_turn(
     ensures { Gives (λ t. t) result (spec.interface_turn parts line item) }
 {
     match item {
-        Item::Declares(declaration) => interface_declares(alloc, parts, line, declaration),
+        Item::Declares(declaration) => interface_declares(
+            alloc,
+            parts,
+            line,
+            declaration.into_inner(),
+        ),
         Item::End(word) => {
             let may_end = is_word(BlockWord::Interface, Some(word));
             closes_type(alloc, may_end, interface_of(parts.into_inner()))
         }
-        other => Err(refuse_in(Frame::Interface(parts), other)),
+        other => {
+            drop((parts, other));
+            Err(Fault::Grammar)
+        }
     }
 }
 
@@ -100,7 +104,10 @@ fn interface_header(
             let parts = Boxed::new(alloc, parts)?;
             Ok(Turn::Goes(Frame::Interface(parts)))
         }
-        None => Err(refuse(Turn::Goes(Frame::Interface(parts)))),
+        None => {
+            drop(parts);
+            Err(Fault::Grammar)
+        }
     }
 }
 
@@ -137,7 +144,7 @@ fn member_header(declaration: DeclarationLine) -> Option<InterfaceHeader>
             InterfaceHeader::Event(name, handler),
         ),
         other => {
-            let _fault = refuse_item(Item::Declares(other));
+            drop(other);
             None
         }
     }
@@ -161,17 +168,9 @@ fn plain(
 fn property_header(modifiers: &Items<Modifier>, header: PropertyHeader) -> Option<InterfaceHeader>
     ensures { result ≡ interface_member (Item.Declares (DeclarationLine.Property modifiers.now header)) }
 {
-    if modifiers.is_empty() && is_property_of_interface(&header) {
+    if modifiers.is_empty() && header.is_of_interface() {
         Some(InterfaceHeader::Property(header.kind, header.name, header.declared))
     } else {
         None
     }
-}
-
-fn is_property_of_interface(header: &PropertyHeader) -> bool
-    ensures { result ≡ is_plain_property header.now }
-{
-    matches!(header.modifier, NameModifier::Plain)
-        && header.initializer.is_none()
-        && header.implements.is_empty()
 }

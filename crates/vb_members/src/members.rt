@@ -6,11 +6,11 @@ ghost use Rattle.vb_blocks.specs.Steps as spec;
 use crate::procedures::header;
 use crate::types::{implements, inherits, type_end};
 use crate::wholes::with_member;
-use sqlite_items::{Boxed, Items};
 use std::alloc::Global;
-use vb_blocks::{EventParts, Fault, Frame, Turn, TypeHeader, opens, refuse, refuse_in};
+use vb_blocks::{EventParts, Fault, Frame, Turn, TypeHeader, opens};
 use vb_syntax::{
-    DeclarationLine, Declarator, Item, LocalModifier, Member, MemberForm, Modifier, TypeName,
+    Boxed, DeclarationLine, Declarator, Item, Items, LocalModifier, Member, MemberForm, Modifier,
+    TypeName,
 };
 use vb_text::Name;
 
@@ -28,9 +28,18 @@ pub fn members_turn(
         Item::Declaration(modifier, declarators) => {
             local(alloc, kind, members, line, modifier, declarators)
         }
-        Item::Declares(declaration) => declares(alloc, kind, members, line, declaration),
+        Item::Declares(declaration) => declares(
+            alloc,
+            kind,
+            members,
+            line,
+            declaration.into_inner(),
+        ),
         Item::End(word) => type_end(alloc, kind, members, line, word),
-        other => Err(refuse_in(Frame::Members(kind, members), other)),
+        other => {
+            drop((members, other));
+            Err(Fault::Grammar)
+        }
     }
 }
 
@@ -65,7 +74,10 @@ fn local(
                 MemberForm::Constants(declarators),
             )
         }
-        LocalModifier::Static => Err(refuse(Turn::Goes(Frame::Members(kind, members)))),
+        LocalModifier::Static => {
+            drop(members);
+            Err(Fault::Grammar)
+        }
     }
 }
 

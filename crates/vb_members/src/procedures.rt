@@ -4,12 +4,11 @@ ghost use Rattle.vb_blocks.specs.Steps.{Gives};
 ghost use Rattle.vb_blocks.specs.Steps as spec;
 
 use crate::members::more;
-use sqlite_items::{Boxed, Items};
 use std::alloc::Global;
-use vb_blocks::{Fault, Frame, Scope, Turn, TypeHeader, begun, opens, refuse_in};
+use vb_blocks::{Fault, Frame, Scope, Turn, TypeHeader, begun, opens};
 use vb_syntax::{
-    DeclarationLine, ImplementedMember, Item, Member, MemberForm, MethodSignature, Modifier,
-    Parameter, must_override,
+    Boxed, DeclarationLine, ImplementedMember, Item, Items, Member, MemberForm, MethodSignature,
+    Modifier, Parameter, must_override,
 };
 
 /// The header of a procedure or of a constructor, or a line that doesn't stand among members.
@@ -61,7 +60,10 @@ pub fn header(
                 )
             }
         }
-        other => Err(refuse_in(Frame::Members(kind, members), Item::Declares(other))),
+        other => {
+            drop((members, other));
+            Err(Fault::Grammar)
+        }
     }
 }
 
@@ -122,6 +124,7 @@ fn constructor(
 fn procedure_frame(alloc: Global, line: u32, declaration: DeclarationLine) -> Result<Frame, Fault>
     ensures { Gives (λ f. f) result (Some (spec.body (Scope.Procedure line (Item.Declares declaration)))) }
 {
+    let declaration = Boxed::new(alloc, declaration)?;
     let header = Boxed::new(alloc, Item::Declares(declaration))?;
     Ok(begun(alloc, Scope::Procedure(line, header)))
 }

@@ -3,14 +3,13 @@ ghost use Rattle.std.specs.Prelude.{◌≡◌};
 ghost use Rattle.vb_blocks.specs.Steps.{Gives};
 ghost use Rattle.vb_blocks.specs.Steps as spec;
 
-use sqlite_items::{Boxed, Items};
 use std::alloc::Global;
 use vb_blocks::{
     AccessorHeader, Fault, Frame, PropertyParts, Scope, Turn, begun, closes_member, given, is_word,
-    refuse_in,
 };
 use vb_syntax::{
-    Access, BlockWord, DeclarationLine, Item, Member, MemberForm, Parameter, PropertyAccessors,
+    Access, BlockWord, Boxed, DeclarationLine, Item, Items, Member, MemberForm, Parameter,
+    PropertyAccessors,
 };
 
 /// An item in a property.
@@ -23,9 +22,17 @@ pub fn property_turn(
     ensures { Gives (λ t. t) result (spec.property_turn parts line item) }
 {
     match item {
-        Item::Declares(declaration) => property_accessor(alloc, parts, line, declaration),
+        Item::Declares(declaration) => property_accessor(
+            alloc,
+            parts,
+            line,
+            declaration.into_inner(),
+        ),
         Item::End(word) => property_end(alloc, parts, line, word),
-        other => Err(refuse_in(Frame::Property(parts), other)),
+        other => {
+            drop((parts, other));
+            Err(Fault::Grammar)
+        }
     }
 }
 
@@ -42,7 +49,10 @@ fn property_accessor(
         DeclarationLine::Set(access, parameters) => {
             property_set(alloc, parts, line, access, parameters)
         }
-        other => Err(refuse_in(Frame::Property(parts), Item::Declares(other))),
+        other => {
+            drop((parts, other));
+            Err(Fault::Grammar)
+        }
     }
 }
 

@@ -3,12 +3,11 @@ ghost use Rattle.std.specs.Prelude.{◌≡◌, [], Some};
 ghost use Rattle.vb_blocks.specs.Steps.{Gives};
 ghost use Rattle.vb_blocks.specs.Steps as spec;
 
-use sqlite_items::{Boxed, Items};
 use std::alloc::Global;
 use vb_blocks::{ClassParts, Fault, Frame, Turn, TypeHeader, closes_type, given, is_word};
 use vb_syntax::{
-    BlockWord, ClassBase, DeclarationLine, InterfaceList, Item, Member, TypeDeclaration, TypeForm,
-    TypeName,
+    BlockWord, Boxed, ClassBase, DeclarationLine, InterfaceList, Item, Items, Member,
+    TypeDeclaration, TypeForm, TypeName,
 };
 
 // THE END

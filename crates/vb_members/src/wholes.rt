@@ -6,14 +6,13 @@ ghost use Rattle.vb_blocks.specs.Steps as spec;
 use crate::events::takes_accessor;
 use crate::files::with_type;
 use crate::properties::{takes_get, takes_set};
-use sqlite_items::{Boxed, Items};
 use std::alloc::Global;
 use vb_blocks::{
-    EventParts, Fault, FileParts, Frame, PropertyParts, Scope, Turn, TypeHeader, Whole, refuse,
+    EventParts, Fault, FileParts, Frame, PropertyParts, Scope, Turn, TypeHeader, Whole,
 };
 use vb_syntax::{
-    Block, EventAccessor, EventAccessorKind, GetAccessor, Member, SetAccessor, Statement,
-    TypeDeclaration,
+    Block, Boxed, EventAccessor, EventAccessorKind, GetAccessor, Items, Member, SetAccessor,
+    Statement, TypeDeclaration,
 };
 
 /// The frame with a part that stands in it.
@@ -26,16 +25,11 @@ pub fn put(alloc: Global, whole: Whole, frame: Frame) -> Result<Frame, Fault>
         Frame::Property(parts) => put_in_property(alloc, whole, parts.into_inner()),
         Frame::Event(parts) => put_accessor(alloc, whole, parts),
         Frame::File(parts) => put_type(alloc, whole, parts),
-        other => Err(refuse_both(whole, other)),
+        other => {
+            drop((whole, other));
+            Err(Fault::Grammar)
+        }
     }
-}
-
-// The part doesn't stand in the frame.
-fn refuse_both(whole: Whole, frame: Frame) -> Fault
-    ensures { result ≡ Fault.Grammar }
-{
-    let _fault = refuse(Turn::Closes(whole));
-    refuse(Turn::Goes(frame))
 }
 
 fn put_statement(whole: Whole, scope: Scope, body: Block) -> Result<Frame, Fault>
@@ -43,7 +37,10 @@ fn put_statement(whole: Whole, scope: Scope, body: Block) -> Result<Frame, Fault
 {
     match whole {
         Whole::Statement(statement) => with_statement(scope, body, statement.into_inner()),
-        other => Err(refuse_both(other, Frame::Body(scope, body))),
+        other => {
+            drop((other, scope, body));
+            Err(Fault::Grammar)
+        }
     }
 }
 
@@ -61,7 +58,10 @@ fn put_member(whole: Whole, kind: Boxed<TypeHeader>, members: Items<Member>) -> 
 {
     match whole {
         Whole::Member(member) => with_member(kind, members, member.into_inner()),
-        other => Err(refuse_both(other, Frame::Members(kind, members))),
+        other => {
+            drop((other, members));
+            Err(Fault::Grammar)
+        }
     }
 }
 
@@ -83,7 +83,10 @@ fn put_type(alloc: Global, whole: Whole, parts: Boxed<FileParts>) -> Result<Fram
 {
     match whole {
         Whole::Type(declaration) => with_type(alloc, parts, declaration.into_inner()),
-        other => Err(refuse_both(other, Frame::File(parts))),
+        other => {
+            drop((other, parts));
+            Err(Fault::Grammar)
+        }
     }
 }
 
@@ -102,7 +105,7 @@ fn put_in_property(alloc: Global, whole: Whole, parts: PropertyParts) -> Result<
             property_given(alloc, is_free, with_set(parts, set))
         }
         other => {
-            let _fault = refuse(Turn::Closes(other));
+            drop(other);
             property_given(alloc, false, parts)
         }
     }
@@ -140,7 +143,8 @@ fn property_given(alloc: Global, may_stand: bool, parts: PropertyParts) -> Resul
     if may_stand {
         Ok(frame)
     } else {
-        Err(refuse(Turn::Goes(frame)))
+        drop(frame);
+        Err(Fault::Grammar)
     }
 }
 
@@ -166,7 +170,10 @@ fn put_accessor(alloc: Global, whole: Whole, parts: Boxed<EventParts>) -> Result
                 with_accessor(parts.into_inner(), kind, accessor),
             )
         }
-        other => Err(refuse_both(other, Frame::Event(parts))),
+        other => {
+            drop((other, parts));
+            Err(Fault::Grammar)
+        }
     }
 }
 
@@ -178,7 +185,8 @@ fn event_given(alloc: Global, may_stand: bool, parts: EventParts) -> Result<Fram
     if may_stand {
         Ok(Frame::Event(parts))
     } else {
-        Err(refuse(Turn::Goes(Frame::Event(parts))))
+        drop(parts);
+        Err(Fault::Grammar)
     }
 }
 

@@ -1,18 +1,11 @@
 -- Whatever the rows of a file lead to stands for them, so that a tree which is built is theirs.
 use Rattle.std.proofs.Common.{◌≡◌, ℕ, Bool, true, false, List, [], ◌∷◌, ◌++◌, Option, Some, None, refl, ap, sym, ◌∙◌, append_assoc, append-nil, subst, if◌then◌else◌}
-use Rattle.vb_syntax.specs.declared.statement.Statement.{Statement}
-use Rattle.vb_syntax.specs.declared.declaration.Modifier.{Modifier}
-use Rattle.vb_syntax.specs.declared.declaration.Member.{Member}
+use Rattle.vb_syntax.specs.{declared.{statement.Statement.Statement, declaration.{Modifier.Modifier, Member.Member}, item.{Joint.Joint, Item.Item, Row.Row}}, Items.must_override}
 use Rattle.vb_syntax.specs.declared.item.DeclarationLine.TheVariants as header
 use Rattle.vb_syntax.specs.declared.item.BlockWord.TheVariants as word
-use Rattle.vb_syntax.specs.declared.item.Joint.{Joint}
-use Rattle.vb_syntax.specs.declared.item.Item.{Item}
 use Rattle.vb_syntax.specs.declared.item.Item.TheVariants as item
-use Rattle.vb_syntax.specs.declared.item.Row.{Row}
-use Rattle.vb_syntax.specs.Items.{must_override}
-use Rattle.vb_blocks.specs.declared.frame.Frame.{Frame}
+use Rattle.vb_blocks.specs.declared.frame.{Frame.Frame, TypeHeader.TypeHeader}
 use Rattle.vb_blocks.specs.declared.frame.Frame.TheVariants as frame
-use Rattle.vb_blocks.specs.declared.frame.TypeHeader.{TypeHeader}
 use Rattle.vb_blocks.specs.Trees as tree
 use Rattle.vb_blocks.specs.Trees.{
   row,
@@ -49,20 +42,12 @@ use Rattle.vb_blocks.specs.Trees.{
   AreOptions,
   AreImports,
 }
-use Rattle.vb_tree.proofs.MemberRows.{parts}
-use Rattle.vb_tree.proofs.Standing.{a_type, takes, IsTypeFront, Stands, stands_body, stands_line, stands_select, stands_property, stands_event, stands_members, stands_interface, stands_file}
-use Rattle.vb_syntax.specs.declared.declaration.MemberForm.{MemberForm}
+use Rattle.vb_tree.proofs.{MemberRows.parts, Standing.{a_type, takes, IsTypeFront, Stands, stands_body, stands_line, stands_select, stands_property, stands_event, stands_members, stands_interface, stands_file, Holds, bottom, inside}, Holding.frame_holds}
+use Rattle.vb_syntax.specs.declared.declaration.{MemberForm.MemberForm, SourceFile.SourceFile}
 use Rattle.vb_syntax.specs.declared.declaration.MemberForm.TheVariants as member
-use Rattle.vb_blocks.specs.Steps.{State, finished}
-use Rattle.vb_tree.proofs.Standing.{Holds, bottom, inside}
-use Rattle.vb_blocks.specs.Steps.{step}
-use Rattle.vb_tree.proofs.Holding.{frame_holds}
+use Rattle.vb_blocks.specs.{Steps.{State, finished, step, popped, popped_behind, automatic, automatic_form, reopened, reopened_as, reopened_last, reopened_step, item_step, run, run_on, start}, Trees.IsTree, declared.frame.PropertyParts.PropertyParts}
 use Rattle.vb_ends.specs.Roles.{goes_on_property}
-use Rattle.vb_blocks.specs.Trees.{IsTree}
-use Rattle.vb_syntax.specs.declared.declaration.SourceFile.{SourceFile}
 use Rattle.vb_syntax.specs.declared.statement.LocalModifier.TheVariants as local
-use Rattle.vb_blocks.specs.declared.frame.PropertyParts.{PropertyParts}
-use Rattle.vb_blocks.specs.Steps.{popped, popped_behind, automatic, automatic_form, reopened, reopened_as, reopened_last, reopened_step, item_step, run, run_on, start}
 
 -- AN AUTOMATIC PROPERTY
 
@@ -166,7 +151,7 @@ choice_holds : (b : Bool) (h : TypeHeader) (ms : List Member) (fs : List Frame) 
 choice_holds true h ms fs rows i st e = last_holds h ms fs rows i st e
 choice_holds false h ms fs rows i st e = let P : State → Type 0 = λ v. Holds v.0 v.1 rows in subst P (some_state (frame.Members h ms, fs) st e) i
 
-reopened_holds : (x : Item) (f : Frame) (fs : List Frame) (rows : List Row) → Holds f fs rows → (st : State) → reopened x f fs ≡ Some st → Holds st.0 st.1 rows
+pub reopened_holds : (x : Item) (f : Frame) (fs : List Frame) (rows : List Row) → Holds f fs rows → (st : State) → reopened x f fs ≡ Some st → Holds st.0 st.1 rows
 reopened_holds x (frame.Members h ms) fs rows i st e = choice_holds (goes_on_property (Some x)) h ms fs rows i st e
 reopened_holds x f fs rows i st e = let P : State → Type 0 = λ v. Holds v.0 v.1 rows in subst P (some_state (f, fs) st e) i
 

@@ -1,28 +1,9 @@
 -- One more at the end of each kind of list.
 use Rattle.std.proofs.Common.{◌≡◌, ℕ, List, [], ◌∷◌, ◌++◌, Option, Some, sym, append_assoc, append-nil, subst}
 use Rattle.vb_text.specs.declared.names.Name.{Name}
-use Rattle.vb_syntax.specs.declared.types.TypeName.{TypeName}
-use Rattle.vb_syntax.specs.declared.expression.Expr.{Expr}
-use Rattle.vb_syntax.specs.declared.statement.CaseItem.{CaseItem}
-use Rattle.vb_syntax.specs.declared.statement.CatchVariable.{CatchVariable}
-use Rattle.vb_syntax.specs.declared.statement.Statement.{Statement}
-use Rattle.vb_syntax.specs.declared.statement.ElseIfClause.{ElseIfClause}
-use Rattle.vb_syntax.specs.declared.statement.CaseClause.{CaseClause}
-use Rattle.vb_syntax.specs.declared.statement.CatchClause.{CatchClause}
-use Rattle.vb_syntax.specs.declared.declaration.Member.{Member}
-use Rattle.vb_syntax.specs.declared.declaration.InterfaceList.{InterfaceList}
-use Rattle.vb_syntax.specs.declared.declaration.InterfaceHeader.{InterfaceHeader}
-use Rattle.vb_syntax.specs.declared.declaration.InterfaceMember.{InterfaceMember}
-use Rattle.vb_syntax.specs.declared.declaration.TypeDeclaration.{TypeDeclaration}
-use Rattle.vb_syntax.specs.declared.declaration.OptionSetting.{OptionSetting}
-use Rattle.vb_syntax.specs.declared.declaration.OptionStatement.{OptionStatement}
-use Rattle.vb_syntax.specs.declared.declaration.ImportsStatement.{ImportsStatement}
-use Rattle.vb_syntax.specs.declared.item.DeclarationLine.{DeclarationLine}
-use Rattle.vb_syntax.specs.declared.item.Joint.{Joint}
+use Rattle.vb_syntax.specs.declared.{types.TypeName.TypeName, expression.Expr.Expr, statement.{CaseItem.CaseItem, CatchVariable.CatchVariable, Statement.Statement, ElseIfClause.ElseIfClause, CaseClause.CaseClause, CatchClause.CatchClause}, declaration.{Member.Member, InterfaceList.InterfaceList, InterfaceHeader.InterfaceHeader, InterfaceMember.InterfaceMember, TypeDeclaration.TypeDeclaration, OptionSetting.OptionSetting, OptionStatement.OptionStatement, ImportsStatement.ImportsStatement}, item.{DeclarationLine.DeclarationLine, Joint.Joint, Item.Item, Row.Row}}
 use Rattle.vb_syntax.specs.declared.item.Joint.TheVariants as joint
-use Rattle.vb_syntax.specs.declared.item.Item.{Item}
 use Rattle.vb_syntax.specs.declared.item.Item.TheVariants as item
-use Rattle.vb_syntax.specs.declared.item.Row.{Row}
 use Rattle.vb_blocks.specs.Trees as tree
 use Rattle.vb_blocks.specs.Trees.{
   whole,

@@ -1,31 +1,12 @@
 -- The rows of a type lead from the types before it to those with it, and the rows of a file from its beginning to its tree.
 use Rattle.std.proofs.Common.{◌≡◌, ℕ, List, [], ◌∷◌, ◌++◌, Option, Some, None, refl, ap, sym, ◌∙◌, append_assoc, append-nil}
 use Rattle.vb_text.specs.declared.names.Name.{Name}
-use Rattle.vb_syntax.specs.declared.types.TypeName.{TypeName}
-use Rattle.vb_syntax.specs.declared.types.TypeParameter.{TypeParameter}
-use Rattle.vb_syntax.specs.declared.declaration.Access.{Access}
-use Rattle.vb_syntax.specs.declared.declaration.ClassModifier.{ClassModifier}
-use Rattle.vb_syntax.specs.declared.declaration.ClassBase.{ClassBase}
-use Rattle.vb_syntax.specs.declared.declaration.InterfaceList.{InterfaceList}
-use Rattle.vb_syntax.specs.declared.declaration.InterfaceHeader.{InterfaceHeader}
-use Rattle.vb_syntax.specs.declared.declaration.InterfaceMember.{InterfaceMember}
-use Rattle.vb_syntax.specs.declared.declaration.TypeDeclaration.{TypeDeclaration}
-use Rattle.vb_syntax.specs.declared.declaration.OptionStatement.{OptionStatement}
-use Rattle.vb_syntax.specs.declared.declaration.ImportsStatement.{ImportsStatement}
-use Rattle.vb_syntax.specs.declared.declaration.SourceFile.{SourceFile}
-use Rattle.vb_syntax.specs.declared.item.DeclarationLine.{DeclarationLine}
+use Rattle.vb_syntax.specs.declared.{types.{TypeName.TypeName, TypeParameter.TypeParameter}, declaration.{Access.Access, ClassModifier.ClassModifier, ClassBase.ClassBase, InterfaceList.InterfaceList, InterfaceHeader.InterfaceHeader, InterfaceMember.InterfaceMember, TypeDeclaration.TypeDeclaration, OptionStatement.OptionStatement, ImportsStatement.ImportsStatement, SourceFile.SourceFile}, item.{DeclarationLine.DeclarationLine, Row.Row}}
 use Rattle.vb_syntax.specs.declared.item.Item.TheVariants as item
-use Rattle.vb_syntax.specs.declared.item.Row.{Row}
-use Rattle.vb_blocks.specs.declared.frame.Frame.{Frame}
+use Rattle.vb_blocks.specs.{declared.frame.{Frame.Frame, ClassParts.ClassParts, InterfaceParts.InterfaceParts, FileParts.FileParts}, Trees.{whole, IsBase, none, some, AreInterfaceLists, nothing, more, AreInterfaceMembers, IsType, module_block, class, interface, delegate, AreTypes, AreOptions, AreImports, IsTree, file}, Steps.{State, step, turned, interface_at, run, start, finished}}
 use Rattle.vb_blocks.specs.declared.frame.Frame.TheVariants as frame
 use Rattle.vb_blocks.specs.declared.frame.TypeHeader.TheVariants as type_header
-use Rattle.vb_blocks.specs.declared.frame.ClassParts.{ClassParts}
-use Rattle.vb_blocks.specs.declared.frame.InterfaceParts.{InterfaceParts}
-use Rattle.vb_blocks.specs.declared.frame.FileParts.{FileParts}
-use Rattle.vb_blocks.specs.Trees.{whole, IsBase, none, some, AreInterfaceLists, nothing, more, AreInterfaceMembers, IsType, module_block, class, interface, delegate, AreTypes, AreOptions, AreImports, IsTree, file}
-use Rattle.vb_blocks.specs.Steps.{State, step, turned, interface_at, run, start, finished}
-use Rattle.vb_tree.proofs.Leads.{Leads, here, on, and_on, leads_to, leads_run}
-use Rattle.vb_tree.proofs.MemberRows.{members_lead}
+use Rattle.vb_tree.proofs.{Leads.{Leads, here, on, and_on, leads_to, leads_run}, MemberRows.members_lead}
 
 -- LISTS
 

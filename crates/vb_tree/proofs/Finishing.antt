@@ -1,23 +1,14 @@
 -- The answer behind the last row is that of the steps.
 use Rattle.std.proofs.Common.{◌≡◌, ℕ, Bool, true, false, List, [], ◌∷◌, reverse, Option, Some, None, Result, Ok, Err, IfOk, refl, sym, ap, ◌∙◌, subst}
 use Rattle.std.proofs.lemmas.List.{reverse-reverse}
-use Rattle.vb_syntax.specs.declared.declaration.SourceFile.{SourceFile}
-use Rattle.vb_blocks.specs.declared.frame.Frame.{Frame}
+use Rattle.vb_syntax.specs.declared.{declaration.SourceFile.SourceFile, item.Row.Row}
+use Rattle.vb_blocks.specs.{declared.{frame.{Frame.Frame, FileParts.FileParts}, fault.Fault.Fault}, Trees.{IsTree, IsMisplaced}, Steps.{State, Fails, run, start, finished}}
 use Rattle.vb_blocks.specs.declared.frame.Frame.TheVariants as frame
-use Rattle.vb_blocks.specs.declared.frame.FileParts.{FileParts}
-use Rattle.vb_tree.specs.declared.tree.BuildErr.{BuildErr}
+use Rattle.vb_tree.specs.{declared.tree.BuildErr.BuildErr, Build.{stopped, finish}}
 use Rattle.vb_tree.specs.declared.tree.BuildErr.TheVariants as error
-use Rattle.vb_syntax.specs.declared.item.Row.{Row}
-use Rattle.vb_ends.specs.declared.role.Sort.{Sort}
-use Rattle.vb_ends.specs.Roles.{marks_of, AreOpenBehind}
-use Rattle.vb_blocks.specs.Trees.{IsTree, IsMisplaced}
-use Rattle.vb_blocks.specs.declared.fault.Fault.{Fault}
+use Rattle.vb_ends.specs.{declared.role.Sort.Sort, Roles.{marks_of, AreOpenBehind}}
 use Rattle.vb_blocks.specs.declared.fault.Fault.TheVariants as fault
-use Rattle.vb_blocks.specs.Steps.{State, Fails, run, start, finished}
-use Rattle.vb_tree.specs.Build.{stopped, finish}
-use Rattle.vb_tree.proofs.Placing.{built, no_tree}
-use Rattle.vb_tree.proofs.Placed.{placed}
-use Rattle.vb_tree.proofs.Unended.{unended}
+use Rattle.vb_tree.proofs.{Placing.{built, no_tree}, Placed.placed, Unended.unended}
 
 pub finish_ok : (n : ℕ) (f : Frame) (b : Bool) (below : List Frame) (t : SourceFile) → (b ≡ true → below ≡ []) → finish n f b ≡ Ok t → finished n f (reverse below) ≡ Some t
 finish_ok n (frame.File p) true below t h e =

@@ -1,47 +1,25 @@
 -- What a turn does to the blocks that are open, whatever the innermost frame is.
 use Rattle.std.proofs.Common.{◌≡◌, ℕ, Bool, true, false, ◌&&◌, ◌||◌, List, [], ◌∷◌, ◌++◌, Option, Some, None, refl, ap, sym, ◌∙◌, subst, if◌then◌else◌}
-use Rattle.vb_syntax.specs.declared.types.TypeName.{TypeName}
+use Rattle.vb_syntax.specs.{declared.{types.TypeName.TypeName, declaration.{Modifier.Modifier, MemberForm.MemberForm, Member.Member, InterfaceHeader.InterfaceHeader, InterfaceMember.InterfaceMember}, item.{PropertyHeader.PropertyHeader, Item.Item}}, Items.{must_override, is_property_of_interface}}
 use Rattle.vb_syntax.specs.declared.statement.LocalModifier.TheVariants as local
 use Rattle.vb_syntax.specs.declared.declaration.FunctionKind.TheVariants as function
-use Rattle.vb_syntax.specs.declared.declaration.Modifier.{Modifier}
-use Rattle.vb_syntax.specs.declared.declaration.MemberForm.{MemberForm}
 use Rattle.vb_syntax.specs.declared.declaration.MemberForm.TheVariants as member
-use Rattle.vb_syntax.specs.declared.declaration.EventAccessor.{EventAccessor}
-use Rattle.vb_syntax.specs.declared.declaration.Member.{Member}
-use Rattle.vb_syntax.specs.declared.declaration.InterfaceHeader.{InterfaceHeader}
 use Rattle.vb_syntax.specs.declared.declaration.InterfaceHeader.TheVariants as interface_header
-use Rattle.vb_syntax.specs.declared.declaration.InterfaceMember.{InterfaceMember}
 use Rattle.vb_syntax.specs.declared.declaration.TypeForm.TheVariants as type_form
-use Rattle.vb_syntax.specs.declared.item.PropertyHeader.{PropertyHeader}
 use Rattle.vb_syntax.specs.declared.item.DeclarationLine.TheVariants as header
 use Rattle.vb_syntax.specs.declared.item.BlockWord.TheVariants as word
-use Rattle.vb_syntax.specs.declared.item.Item.{Item}
 use Rattle.vb_syntax.specs.declared.item.Item.TheVariants as item
-use Rattle.vb_syntax.specs.Items.{must_override}
-use Rattle.vb_ends.specs.declared.role.Sort.{Sort}
+use Rattle.vb_ends.specs.{declared.role.{Sort.Sort, Role.Role}, Roles.{accessor_sort, goes_on_property, is_header_of_interface, item_role, opens_or_ends}}
 use Rattle.vb_ends.specs.declared.role.Sort.TheVariants as sort
-use Rattle.vb_ends.specs.declared.role.Role.{Role}
 use Rattle.vb_ends.specs.declared.role.Role.TheVariants as role
-use Rattle.vb_ends.specs.Roles.{accessor_sort, goes_on_property, is_property_of_interface, is_header_of_interface, item_role, opens_or_ends, keeps_in_interface}
 use Rattle.vb_blocks.specs.declared.scope.Scope.TheVariants as scope
 use Rattle.vb_blocks.specs.declared.scope.AccessorHeader.TheVariants as accessor_header
-use Rattle.vb_blocks.specs.declared.frame.Frame.{Frame}
+use Rattle.vb_blocks.specs.{declared.frame.{Frame.Frame, PropertyParts.PropertyParts, EventParts.EventParts, TypeHeader.TypeHeader, ClassParts.ClassParts, InterfaceParts.InterfaceParts, FileParts.FileParts, Turn.Turn}, Trees.{member_of, bare_member, interface_member}, Steps.{State, body, is_line, takes_get, takes_set, property_of, property_turn, takes_accessor, custom_event, event_turn, member_opened, only, before_all, class_based, class_implements, class_of, header_turn, member_or_header, interface_inherits, interface_of, interface_at, is_empty, file_turn, frame_turn, popped, automatic, automatic_form, reopened_last, reopened_as}}
 use Rattle.vb_blocks.specs.declared.frame.Frame.TheVariants as frame
-use Rattle.vb_blocks.specs.declared.frame.PropertyParts.{PropertyParts}
-use Rattle.vb_blocks.specs.declared.frame.EventParts.{EventParts}
-use Rattle.vb_blocks.specs.declared.frame.TypeHeader.{TypeHeader}
 use Rattle.vb_blocks.specs.declared.frame.TypeHeader.TheVariants as type_header
-use Rattle.vb_blocks.specs.declared.frame.ClassParts.{ClassParts}
-use Rattle.vb_blocks.specs.declared.frame.InterfaceParts.{InterfaceParts}
-use Rattle.vb_blocks.specs.declared.frame.FileParts.{FileParts}
 use Rattle.vb_blocks.specs.declared.frame.Whole.TheVariants as is
-use Rattle.vb_blocks.specs.declared.frame.Turn.{Turn}
 use Rattle.vb_blocks.specs.declared.frame.Turn.TheVariants as turn
-use Rattle.vb_blocks.specs.Trees.{member_of, bare_member, interface_member}
-use Rattle.vb_blocks.specs.Steps.{State, body, is_line, takes_get, takes_set, property_of, property_turn, takes_accessor, event_whole, event_turn, member_opened, only, before_all, class_based, class_implements, class_of, header_turn, member_or_header, interface_inherits, interface_of, interface_at, is_empty, file_turn, frame_turn, popped, automatic, automatic_form, reopened_last, reopened_as}
-use Rattle.vb_tree.proofs.MemberRows.{popped_append}
-use Rattle.vb_tree.proofs.StatementMarks.{ends_as, Begins, begins_body, begins_other, opens_with, select_next_marks, line_marks}
-use Rattle.vb_tree.proofs.Sorts.{frame_sort, open_sorts, is_interface, Leaves, reopened_at, IsSettled, some_state, settled_other, settled_new, Goes, Marked, marked_as, marked_if, goes_settled}
+use Rattle.vb_tree.proofs.{MemberRows.popped_append, StatementMarks.{ends_as, Begins, begins_body, begins_other, opens_with, select_next_marks, line_marks}, Sorts.{frame_sort, open_sorts, is_interface, Leaves, reopened_at, IsSettled, some_state, settled_other, settled_new, Goes, Marked, marked_as, marked_if, goes_settled}}
 
 if_some : {A : Type 0} (b : Bool) (x y : A) → (if b then Some x else None) ≡ Some y → (b ≡ true) × (x ≡ y)
 if_some true x y e = (refl, cc)
@@ -64,25 +42,20 @@ property_marks : (p : PropertyParts) (line : ℕ) (x : Item) (t : Turn) → prop
 property_marks p line (item.Declares (header.Get a)) t e =
     let h : Frame = body (scope.Accessor (accessor_header.Get line a)) in
     opens_if (takes_get p.get p.set) (frame.Property p) (item.Declares (header.Get a)) h
-    (begins_body (frame.Property p) (item.Declares (header.Get a)) (scope.Accessor (accessor_header.Get line a)) sort.Get refl (λ next. refl) refl h refl) t e
+    (begins_body (frame.Property p) (item.Declares (header.Get a)) (scope.Accessor (accessor_header.Get line a)) sort.Get refl (λ next. refl) h refl) t e
 property_marks p line (item.Declares (header.Set a ps)) t e =
     let h : Frame = body (scope.Accessor (accessor_header.Set line a ps)) in
     opens_if (takes_set p.set) (frame.Property p) (item.Declares (header.Set a ps)) h
-    (begins_body (frame.Property p) (item.Declares (header.Set a ps)) (scope.Accessor (accessor_header.Set line a ps)) sort.Set refl (λ next. refl) refl h refl) t e
-property_marks p line (item.End word.Property) t e = ends_as (frame.Property p) (item.End word.Property) (is.Member (property_of p)) sort.Property refl (λ next. refl) refl refl t e
+    (begins_body (frame.Property p) (item.Declares (header.Set a ps)) (scope.Accessor (accessor_header.Set line a ps)) sort.Set refl (λ next. refl) h refl) t e
+property_marks p line (item.End word.Property) t e = ends_as (frame.Property p) (item.End word.Property) (is.Member (property_of p)) sort.Property refl (λ next. refl) refl t e
 property_marks p line x t e = absurd cc
-
-event_ends : (v : EventParts) (a b c : Option EventAccessor) (t : Turn) → event_whole v a b c ≡ Some t → Marked (frame.Event v) (item.End word.Event) t
-event_ends v (Some a) (Some b) (Some c) t e =
-    ends_as (frame.Event v) (item.End word.Event) (is.Member (member_of v.line (v.modifiers, member.CustomEvent v.name v.delegate a b c))) sort.Event refl (λ next. refl) refl refl t e
-event_ends v a b c t e = absurd cc
 
 event_marks : (v : EventParts) (line : ℕ) (x : Item) (t : Turn) → event_turn v line x ≡ Some t → Marked (frame.Event v) x t
 event_marks v line (item.Declares (header.EventAccessor k ps)) t e =
     let h : Frame = body (scope.Accessor (accessor_header.Event line k ps)) in
     opens_if (takes_accessor k v) (frame.Event v) (item.Declares (header.EventAccessor k ps)) h
-    (begins_body (frame.Event v) (item.Declares (header.EventAccessor k ps)) (scope.Accessor (accessor_header.Event line k ps)) (accessor_sort k) refl (λ next. refl) refl h refl) t e
-event_marks v line (item.End word.Event) t e = event_ends v v.add_handler v.remove_handler v.raise_event t e
+    (begins_body (frame.Event v) (item.Declares (header.EventAccessor k ps)) (scope.Accessor (accessor_header.Event line k ps)) (accessor_sort k) refl (λ next. refl) h refl) t e
+event_marks v line (item.End word.Event) t e = ends_as (frame.Event v) (item.End word.Event) (is.Member (custom_event v)) sort.Event refl (λ next. refl) refl t e
 event_marks v line x t e = absurd cc
 
 -- MEMBERS WITHOUT A BLOCK
@@ -144,15 +117,6 @@ bare_opens line (item.Declares (header.Function ms k s t is_)) m e p was next on
     absurd (other_form line (ms, member.Function k s t is_ None) m p (if_some (must_override ms) (ms, member.Function k s t is_ None) m e).1 refl was)
 bare_opens line x m e p was next on = absurd cc
 
-bare_outside : (x : Item) (m : List Modifier × MemberForm) → bare_member x ≡ Some m → keeps_in_interface (Some x) false ≡ false
-bare_outside (item.Declares (header.Sub ms s is_)) m e = and_false (is_header_of_interface (header.Sub ms s is_))
-bare_outside (item.Declares (header.Function ms k s t is_)) m e = and_false (is_header_of_interface (header.Function ms k s t is_))
-bare_outside (item.Declares (header.Property ms h)) m e = and_false (is_header_of_interface (header.Property ms h))
-bare_outside (item.Declares (header.Event ms n h is_)) m e = and_false (is_header_of_interface (header.Event ms n h is_))
-bare_outside (item.Declares (header.Interface a n ps)) m e = absurd cc
-bare_outside (item.Declares d) m e = refl
-bare_outside x m e = refl
-
 -- where the last member is put back as the property that it may be
 reopened_leaves : (h : TypeHeader) (ms : List Member) (line : ℕ) (x : Item) (m : List Modifier × MemberForm) → bare_member x ≡ Some m → (next : Option Item) → goes_on_property next ≡ true → (fs : List Frame)
     → (o : Option PropertyParts) → automatic_form line m.0 m.1 ≡ o → (st : State) → reopened_as h ms fs o ≡ Some st
@@ -182,31 +146,29 @@ bare_leaves h ms line x m i None fs st e = stayed_leaves h ms line x m i None re
 bare_leaves h ms line x m i (Some y) fs st e = choice_leaves h ms line x m i y (goes_on_property (Some y)) refl fs st e
 
 bare_goes : (h : TypeHeader) (ms : List Member) (line : ℕ) (x : Item) (m : List Modifier × MemberForm) → bare_member x ≡ Some m → Goes (frame.Members h ms) x (with_member h ms line m)
-bare_goes h ms line x m i = record { leaves = bare_leaves h ms line x m i; inside = bare_outside x m i }
+bare_goes h ms line x m i = record { leaves = bare_leaves h ms line x m i }
 
 -- MEMBERS
 
 procedure_begins : (h : TypeHeader) (ms : List Member) (line : ℕ) (x : Item) (k : Frame) → bare_member x ≡ None → member_opened line x ≡ Some k → Begins (frame.Members h ms) x k
 procedure_begins h ms line (item.Declares (header.Sub m s is_)) k i e =
     begins_body (frame.Members h ms) (item.Declares (header.Sub m s is_)) (scope.Procedure line (item.Declares (header.Sub m s is_))) sort.Sub refl
-    (λ next. ap (λ (b : Bool). opens_or_ends (if b || false then None else Some sort.Sub) None) (not_bare (must_override m) (m, member.Sub s is_ None) i))
-    (and_false (is_header_of_interface (header.Sub m s is_))) k e
+    (λ next. ap (λ (b : Bool). opens_or_ends (if b || false then None else Some sort.Sub) None) (not_bare (must_override m) (m, member.Sub s is_ None) i)) k e
 procedure_begins h ms line (item.Declares (header.Constructor m s is_)) k i e =
     begins_body (frame.Members h ms) (item.Declares (header.Constructor m s is_)) (scope.Procedure line (item.Declares (header.Constructor m s is_))) sort.Sub refl
-    (λ next. ap (λ (b : Bool). opens_or_ends (if b then None else Some sort.Sub) None) (not_bare (must_override m) (m, member.Constructor s is_ None) i)) refl k e
+    (λ next. ap (λ (b : Bool). opens_or_ends (if b then None else Some sort.Sub) None) (not_bare (must_override m) (m, member.Constructor s is_ None) i)) k e
 procedure_begins h ms line (item.Declares (header.Function m f s t is_)) k i e =
     begins_body (frame.Members h ms) (item.Declares (header.Function m f s t is_)) (scope.Procedure line (item.Declares (header.Function m f s t is_))) sort.Function refl
-    (λ next. ap (λ (b : Bool). opens_or_ends (if b || false then None else Some sort.Function) None) (not_bare (must_override m) (m, member.Function f s t is_ None) i))
-    (and_false (is_header_of_interface (header.Function m f s t is_))) k e
+    (λ next. ap (λ (b : Bool). opens_or_ends (if b || false then None else Some sort.Function) None) (not_bare (must_override m) (m, member.Function f s t is_ None) i)) k e
 procedure_begins h ms line (item.Declares (header.CustomEvent m n d)) k i e =
     let v : Frame = frame.Event (record { line = line; modifiers = m; name = n; delegate = d; add_handler = None; remove_handler = None; raise_event = None }) in
-    begins_other (frame.Members h ms) (item.Declares (header.CustomEvent m n d)) v sort.Event refl (λ next. refl) refl (settled_other v refl) k e
+    begins_other (frame.Members h ms) (item.Declares (header.CustomEvent m n d)) v sort.Event refl (λ next. refl) (settled_other v refl) k e
 procedure_begins h ms line x k i e = absurd cc
 
 goes_new : (h g : TypeHeader) (ms : List Member) (x : Item) → frame_sort (frame.Members g []) ≡ frame_sort (frame.Members h ms) → ((next : Option Item) → bare_role x next ≡ role.Stays)
-    → keeps_in_interface (Some x) false ≡ false → (t : Turn) → ◌≡◌ {A = Option Turn} (Some (turn.Goes (frame.Members g []))) (Some t) → Marked (frame.Members h ms) x t
-goes_new h g ms x same is out t e =
-    marked_as (frame.Members h ms) x (turn.Goes (frame.Members g [])) t (goes_settled (frame.Members h ms) x (frame.Members g []) same (settled_new g) is out) e
+    → (t : Turn) → ◌≡◌ {A = Option Turn} (Some (turn.Goes (frame.Members g []))) (Some t) → Marked (frame.Members h ms) x t
+goes_new h g ms x same is t e =
+    marked_as (frame.Members h ms) x (turn.Goes (frame.Members g [])) t (goes_settled (frame.Members h ms) x (frame.Members g []) same (settled_new g) is) e
 
 class_based_marks : (p : ClassParts) (ms : List Member) (line : ℕ) (ts : List TypeName) (o : Option TypeName) (t : Turn) → class_based p line o ≡ Some t
     → Marked (frame.Members (type_header.Class p) ms) (item.Declares (header.Inherits ts)) t
@@ -220,7 +182,7 @@ class_based_marks p ms line ts (Some u) t e =
       type_parameters = p.type_parameters;
       base = Some (record { line = line; base = u });
       implements = p.implements;
-    })) ms (item.Declares (header.Inherits ts)) refl (λ next. refl) refl t e
+    })) ms (item.Declares (header.Inherits ts)) refl (λ next. refl) t e
 
 class_implements_marks : (p : ClassParts) (ms : List Member) (line : ℕ) (ts : List TypeName) (t : Turn) → class_implements p line ts ms ≡ Some t
     → Marked (frame.Members (type_header.Class p) ms) (item.Declares (header.Implements ts)) t
@@ -233,15 +195,15 @@ class_implements_marks p [] line ts t e =
       type_parameters = p.type_parameters;
       base = p.base;
       implements = p.implements ++ record { line = line; interfaces = ts } ∷ [];
-    })) [] (item.Declares (header.Implements ts)) refl (λ next. refl) refl t e
+    })) [] (item.Declares (header.Implements ts)) refl (λ next. refl) t e
 class_implements_marks p (m ∷ ms) line ts t e = absurd cc
 
 header_marks : (h : TypeHeader) (ms : List Member) (line : ℕ) (x : Item) (t : Turn) → header_turn h ms line x ≡ Some t → Marked (frame.Members h ms) x t
 header_marks (type_header.Module l a n) ms line (item.End word.Module) t e =
-    ends_as (frame.Members (type_header.Module l a n) ms) (item.End word.Module) (is.Type (record { line = l; access = a; name = n; form = type_form.Module ms })) sort.Module refl (λ next. refl) refl tt t e
+    ends_as (frame.Members (type_header.Module l a n) ms) (item.End word.Module) (is.Type (record { line = l; access = a; name = n; form = type_form.Module ms })) sort.Module refl (λ next. refl) tt t e
 header_marks (type_header.Module l a n) ms line x t e = absurd cc
 header_marks (type_header.Class p) ms line (item.End word.Class) t e =
-    ends_as (frame.Members (type_header.Class p) ms) (item.End word.Class) (is.Type (class_of p ms)) sort.Class refl (λ next. refl) refl tt t e
+    ends_as (frame.Members (type_header.Class p) ms) (item.End word.Class) (is.Type (class_of p ms)) sort.Class refl (λ next. refl) tt t e
 header_marks (type_header.Class p) ms line (item.Declares (header.Inherits ts)) t e = class_based_marks p ms line ts (before_all p.base p.implements ms (only ts)) t e
 header_marks (type_header.Class p) ms line (item.Declares (header.Implements ts)) t e = class_implements_marks p ms line ts t e
 header_marks (type_header.Class p) ms line x t e = absurd cc
@@ -256,33 +218,29 @@ member_marks h ms line x None None t i was e = header_marks h ms line x t e
 -- INTERFACES
 
 -- a header of a member of an interface opens nothing there
-pub record StaysInside (x : Item) : Type 0 where
-  pub role : (next : Option Item) → item_role true (Some x) next ≡ role.Stays
-  pub inside : keeps_in_interface (Some x) true ≡ true
+abbrev StaysInside : Item → Type 0
+StaysInside x = (next : Option Item) → item_role true (Some x) next ≡ role.Stays
 
 property_inside : (h : PropertyHeader) (v : InterfaceHeader) (o : Option InterfaceHeader) → (b : Bool) → is_property_of_interface h ≡ b → (if b then o else None) ≡ Some v → StaysInside (item.Declares (header.Property [] h))
-property_inside h v o true is_ e = record {
-  role = λ next. ap (λ (b : Bool). opens_or_ends (if b then None else if goes_on_property next then Some sort.Property else None) None) is_;
-  inside = ap (λ (b : Bool). b && true) is_;
-}
+property_inside h v o true is_ e = λ next. ap (λ (b : Bool). opens_or_ends (if b then None else if goes_on_property next then Some sort.Property else None) None) is_
 property_inside h v o false is_ e = absurd cc
 
 stays_inside : (x : Item) (h : InterfaceHeader) → interface_member x ≡ Some h → StaysInside x
-stays_inside (item.Declares (header.Sub [] s [])) h e = record { role = λ next. refl; inside = refl }
-stays_inside (item.Declares (header.Function [] function.Regular s t [])) h e = record { role = λ next. refl; inside = refl }
+stays_inside (item.Declares (header.Sub [] s [])) h e = λ next. refl
+stays_inside (item.Declares (header.Function [] function.Regular s t [])) h e = λ next. refl
 stays_inside (item.Declares (header.Property [] p)) h e = property_inside p h (Some (interface_header.Property p.kind p.name p.declared)) (is_property_of_interface p) refl e
-stays_inside (item.Declares (header.Event [] n k [])) h e = record { role = λ next. refl; inside = refl }
+stays_inside (item.Declares (header.Event [] n k [])) h e = λ next. refl
 stays_inside x h e = absurd cc
 
 interface_goes : (p q : InterfaceParts) (x : Item) → StaysInside x → (t : Turn) → ◌≡◌ {A = Option Turn} (Some (turn.Goes (frame.Interface q))) (Some t) → Marked (frame.Interface p) x t
 interface_goes p q x i t e =
-    marked_as (frame.Interface p) x (turn.Goes (frame.Interface q)) t (goes_settled (frame.Interface p) x (frame.Interface q) refl (settled_other (frame.Interface q) refl) i.role i.inside) e
+    marked_as (frame.Interface p) x (turn.Goes (frame.Interface q)) t (goes_settled (frame.Interface p) x (frame.Interface q) refl (settled_other (frame.Interface q) refl) i) e
 
 interface_inherits_marks : (p : InterfaceParts) (line : ℕ) (ts : List TypeName) (ms : List InterfaceMember) (t : Turn) → interface_inherits p line ts ms ≡ Some t
     → Marked (frame.Interface p) (item.Declares (header.Inherits ts)) t
 interface_inherits_marks p line ts [] t e =
     interface_goes p (record { line = p.line; access = p.access; name = p.name; type_parameters = p.type_parameters; inherits = p.inherits ++ record { line = line; interfaces = ts } ∷ []; members = [] })
-    (item.Declares (header.Inherits ts)) (record { role = λ next. refl; inside = refl }) t e
+    (item.Declares (header.Inherits ts)) (λ next. refl) t e
 interface_inherits_marks p line ts (m ∷ ms) t e = absurd cc
 
 interface_marks : (p : InterfaceParts) (line : ℕ) (x : Item) (o : Option InterfaceHeader) (t : Turn) → interface_member x ≡ o → interface_at p line x o ≡ Some t → Marked (frame.Interface p) x t
@@ -291,37 +249,37 @@ interface_marks p line x (Some h) t was e =
     x (stays_inside x h was) t e
 interface_marks p line (item.Declares (header.Inherits ts)) None t was e = interface_inherits_marks p line ts p.members t e
 interface_marks p line (item.End word.Interface) None t was e =
-    ends_as (frame.Interface p) (item.End word.Interface) (is.Type (interface_of p)) sort.Interface refl (λ next. refl) refl tt t e
+    ends_as (frame.Interface p) (item.End word.Interface) (is.Type (interface_of p)) sort.Interface refl (λ next. refl) tt t e
 interface_marks p line x None t was e = absurd cc
 
 -- FILES
 
-file_goes : (p q : FileParts) (x : Item) → ((next : Option Item) → item_role false (Some x) next ≡ role.Stays) → keeps_in_interface (Some x) false ≡ false → Marked (frame.File p) x (turn.Goes (frame.File q))
-file_goes p q x is_ out = goes_settled (frame.File p) x (frame.File q) refl (settled_other (frame.File q) refl) is_ out
+file_goes : (p q : FileParts) (x : Item) → ((next : Option Item) → item_role false (Some x) next ≡ role.Stays) → Marked (frame.File p) x (turn.Goes (frame.File q))
+file_goes p q x is_ = goes_settled (frame.File p) x (frame.File q) refl (settled_other (frame.File q) refl) is_
 
 file_opens : (p : FileParts) (x : Item) (k : Frame) (s : Sort) → frame_sort k ≡ Some s → ((next : Option Item) → item_role false (Some x) next ≡ role.Opens s)
-    → keeps_in_interface (Some x) false ≡ is_interface k → IsSettled k → (t : Turn) → ◌≡◌ {A = Option Turn} (Some (turn.Opens (frame.File p) k)) (Some t) → Marked (frame.File p) x t
-file_opens p x k s new is_ out settled t e =
-    marked_as (frame.File p) x (turn.Opens (frame.File p) k) t (opens_with (frame.File p) x k (begins_other (frame.File p) x k s new is_ out settled k refl)) e
+    → IsSettled k → (t : Turn) → ◌≡◌ {A = Option Turn} (Some (turn.Opens (frame.File p) k)) (Some t) → Marked (frame.File p) x t
+file_opens p x k s new is_ settled t e =
+    marked_as (frame.File p) x (turn.Opens (frame.File p) k) t (opens_with (frame.File p) x k (begins_other (frame.File p) x k s new is_ settled k refl)) e
 
 file_marks : (p : FileParts) (line : ℕ) (x : Item) (t : Turn) → file_turn p line x ≡ Some t → Marked (frame.File p) x t
 file_marks p line (item.Option s) t e =
     let q : FileParts = record { options = p.options ++ record { line = line; setting = s } ∷ []; imports = p.imports; types = p.types } in
-    marked_if (is_empty p.imports && is_empty p.types) (frame.File p) (item.Option s) (turn.Goes (frame.File q)) t (file_goes p q (item.Option s) (λ next. refl) refl) e
+    marked_if (is_empty p.imports && is_empty p.types) (frame.File p) (item.Option s) (turn.Goes (frame.File q)) t (file_goes p q (item.Option s) (λ next. refl)) e
 file_marks p line (item.Imports ns) t e =
     let q : FileParts = record { options = p.options; imports = p.imports ++ record { line = line; namespaces = ns } ∷ []; types = p.types } in
-    marked_if (is_empty p.types) (frame.File p) (item.Imports ns) (turn.Goes (frame.File q)) t (file_goes p q (item.Imports ns) (λ next. refl) refl) e
+    marked_if (is_empty p.types) (frame.File p) (item.Imports ns) (turn.Goes (frame.File q)) t (file_goes p q (item.Imports ns) (λ next. refl)) e
 file_marks p line (item.Declares (header.Delegate a k n ps xs u)) t e =
     let q : FileParts = record { options = p.options; imports = p.imports; types = p.types ++ record { line = line; access = a; name = n; form = type_form.Delegate k ps xs u } ∷ [] } in
-    marked_as (frame.File p) (item.Declares (header.Delegate a k n ps xs u)) (turn.Goes (frame.File q)) t (file_goes p q (item.Declares (header.Delegate a k n ps xs u)) (λ next. refl) refl) e
+    marked_as (frame.File p) (item.Declares (header.Delegate a k n ps xs u)) (turn.Goes (frame.File q)) t (file_goes p q (item.Declares (header.Delegate a k n ps xs u)) (λ next. refl)) e
 file_marks p line (item.Declares (header.Module a n)) t e =
-    file_opens p (item.Declares (header.Module a n)) (frame.Members (type_header.Module line a n) []) sort.Module refl (λ next. refl) refl (settled_new (type_header.Module line a n)) t e
+    file_opens p (item.Declares (header.Module a n)) (frame.Members (type_header.Module line a n) []) sort.Module refl (λ next. refl) (settled_new (type_header.Module line a n)) t e
 file_marks p line (item.Declares (header.Class a c n ps)) t e =
     let h : TypeHeader = type_header.Class (record { line = line; access = a; modifier = c; name = n; type_parameters = ps; base = None; implements = [] }) in
-    file_opens p (item.Declares (header.Class a c n ps)) (frame.Members h []) sort.Class refl (λ next. refl) refl (settled_new h) t e
+    file_opens p (item.Declares (header.Class a c n ps)) (frame.Members h []) sort.Class refl (λ next. refl) (settled_new h) t e
 file_marks p line (item.Declares (header.Interface a n ps)) t e =
     let k : Frame = frame.Interface (record { line = line; access = a; name = n; type_parameters = ps; inherits = []; members = [] }) in
-    file_opens p (item.Declares (header.Interface a n ps)) k sort.Interface refl (λ next. refl) refl (settled_other k refl) t e
+    file_opens p (item.Declares (header.Interface a n ps)) k sort.Interface refl (λ next. refl) (settled_other k refl) t e
 file_marks p line x t e = absurd cc
 
 -- ALL FRAMES

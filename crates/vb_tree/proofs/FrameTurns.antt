@@ -2,41 +2,20 @@
 use Rattle.std.proofs.Common.{◌≡◌, ℕ, Bool, true, false, List, [], ◌∷◌, ◌++◌, Option, Some, None, refl, ap, sym, ◌∙◌, append_assoc, append-nil, subst, if◌then◌else◌}
 use Rattle.std.specs.Prelude.{not}
 use Rattle.vb_text.specs.declared.names.Name.{Name}
-use Rattle.vb_syntax.specs.declared.types.TypeName.{TypeName}
-use Rattle.vb_syntax.specs.declared.types.TypeParameter.{TypeParameter}
-use Rattle.vb_syntax.specs.declared.expression.Expr.{Expr}
-use Rattle.vb_syntax.specs.declared.statement.StatementForm.{StatementForm}
-use Rattle.vb_syntax.specs.declared.statement.Statement.{Statement}
-use Rattle.vb_syntax.specs.declared.declaration.Access.{Access}
-use Rattle.vb_syntax.specs.declared.declaration.Modifier.{Modifier}
-use Rattle.vb_syntax.specs.declared.declaration.Member.{Member}
-use Rattle.vb_syntax.specs.declared.declaration.GetAccessor.{GetAccessor}
-use Rattle.vb_syntax.specs.declared.declaration.SetAccessor.{SetAccessor}
-use Rattle.vb_syntax.specs.declared.declaration.EventAccessor.{EventAccessor}
-use Rattle.vb_syntax.specs.declared.declaration.ClassModifier.{ClassModifier}
-use Rattle.vb_syntax.specs.declared.declaration.ClassBase.{ClassBase}
-use Rattle.vb_syntax.specs.declared.declaration.InterfaceList.{InterfaceList}
+use Rattle.vb_syntax.specs.{declared.{types.{TypeName.TypeName, TypeParameter.TypeParameter}, expression.Expr.Expr, statement.{StatementForm.StatementForm, Statement.Statement}, declaration.{Access.Access, Modifier.Modifier, Member.Member, GetAccessor.GetAccessor, SetAccessor.SetAccessor, EventAccessor.EventAccessor, ClassModifier.ClassModifier, ClassBase.ClassBase, InterfaceList.InterfaceList}, item.{PropertyHeader.PropertyHeader, Item.Item, Row.Row}}, Items.must_override}
 use Rattle.vb_syntax.specs.declared.declaration.TypeForm.TheVariants as type_form
-use Rattle.vb_syntax.specs.declared.item.PropertyHeader.{PropertyHeader}
 use Rattle.vb_syntax.specs.declared.item.EventAccessorKind.TheVariants as accessor
 use Rattle.vb_syntax.specs.declared.item.DeclarationLine.TheVariants as header
 use Rattle.vb_syntax.specs.declared.item.BlockWord.TheVariants as word
-use Rattle.vb_syntax.specs.declared.item.Item.{Item}
 use Rattle.vb_syntax.specs.declared.item.Item.TheVariants as item
-use Rattle.vb_syntax.specs.declared.item.Row.{Row}
-use Rattle.vb_syntax.specs.Items.{must_override}
-use Rattle.vb_blocks.specs.declared.scope.Scope.{Scope}
+use Rattle.vb_blocks.specs.declared.{scope.{Scope.Scope, AccessorHeader.AccessorHeader}, frame.{Frame.Frame, TypeHeader.TypeHeader, Turn.Turn}}
 use Rattle.vb_blocks.specs.declared.scope.Scope.TheVariants as scope
 use Rattle.vb_blocks.specs.declared.scope.IfClause.TheVariants as if_clause
 use Rattle.vb_blocks.specs.declared.scope.TryClause.TheVariants as try_clause
-use Rattle.vb_blocks.specs.declared.scope.AccessorHeader.{AccessorHeader}
 use Rattle.vb_blocks.specs.declared.scope.AccessorHeader.TheVariants as accessor_header
-use Rattle.vb_blocks.specs.declared.frame.Frame.{Frame}
 use Rattle.vb_blocks.specs.declared.frame.Frame.TheVariants as frame
-use Rattle.vb_blocks.specs.declared.frame.TypeHeader.{TypeHeader}
 use Rattle.vb_blocks.specs.declared.frame.TypeHeader.TheVariants as type_header
 use Rattle.vb_blocks.specs.declared.frame.Whole.TheVariants as is
-use Rattle.vb_blocks.specs.declared.frame.Turn.{Turn}
 use Rattle.vb_blocks.specs.declared.frame.Turn.TheVariants as turn
 use Rattle.vb_blocks.specs.Trees as tree
 use Rattle.vb_blocks.specs.Trees.{
@@ -74,15 +53,10 @@ use Rattle.vb_blocks.specs.Trees.{
   AreOptions,
   AreImports,
 }
-use Rattle.vb_blocks.specs.Steps.{body, is_line, opened, takes_get, takes_set, takes_accessor, select_next, member_opened, scope_turn, accessor_turn, enclosed_whole, procedure_whole, opened_or_turned, body_turn, property_turn, event_turn, event_whole, members_turn, member_or_header, header_turn, class_of, class_inherits, class_implements}
-use Rattle.vb_tree.proofs.MemberRows.{parts, event_parts}
-use Rattle.vb_tree.proofs.FileRows.{class_parts}
-use Rattle.vb_tree.proofs.Standing.{Kind, a_statement, a_member, kind_of, takes, IsFront, front_enclosed, front_if, front_try, front_procedure, front_get, front_set, front_event, IsTypeFront, front_module, front_class, Stands, stands_body, stands_select, stands_event, stands_members, Turned}
-use Rattle.vb_tree.proofs.Ends.{grouped, one_member, one_list}
+use Rattle.vb_blocks.specs.Steps.{body, is_line, opened, takes_get, takes_set, takes_accessor, select_next, member_opened, scope_turn, accessor_turn, enclosed_whole, procedure_whole, opened_or_turned, body_turn, property_turn, custom_event, event_turn, members_turn, member_or_header, header_turn, class_of, class_inherits, class_implements, property_of}
+use Rattle.vb_tree.proofs.{MemberRows.{parts, event_parts}, FileRows.class_parts, Standing.{Kind, a_statement, a_member, kind_of, takes, IsFront, front_enclosed, front_if, front_try, front_procedure, front_get, front_set, front_event, IsTypeFront, front_module, front_class, Stands, stands_body, stands_select, stands_event, stands_members, Turned}, Ends.{grouped, one_member, one_list}, Turning.{if_turns, select_turns, select_next_turns, try_turns}}
 use Rattle.vb_syntax.specs.declared.declaration.MemberForm.{MemberForm}
 use Rattle.vb_syntax.specs.declared.declaration.MemberForm.TheVariants as member
-use Rattle.vb_blocks.specs.Steps.{property_of}
-use Rattle.vb_tree.proofs.Turning.{if_turns, select_turns, select_next_turns, try_turns}
 
 -- BODIES
 
@@ -218,15 +192,6 @@ property_turns l ms h g s gets sets free ig is_ line (item.End word.Property) t 
     subst P q (grouped (λ r. IsMember (whole l (item.Declares (header.Property ms h)) ∷ r) (property_of p)) gets sets (whole line (item.End word.Property) ∷ []) (tree.property line free ig is_), refl)
 property_turns l ms h g s gets sets free ig is_ line x t e = absurd cc
 
-event_ends : (l : ℕ) (ms : List Modifier) (n : Name) (d : TypeName) (a b c : Option EventAccessor) (rows : List Row) → AreEventAccessors rows a b c → (line : ℕ) (t : Turn)
-    → event_whole (event_parts l ms n d a b c) a b c ≡ Some t
-    → Turned (frame.Event (event_parts l ms n d a b c)) (whole l (item.Declares (header.CustomEvent ms n d)) ∷ rows) (whole line (item.End word.Event)) t
-event_ends l ms n d (Some a) (Some b) (Some c) rows i line t e =
-    let P : Turn → Type 0 = λ u. Turned (frame.Event (event_parts l ms n d (Some a) (Some b) (Some c))) (whole l (item.Declares (header.CustomEvent ms n d)) ∷ rows) (whole line (item.End word.Event)) u in
-    let q : turn.Closes (is.Member (member_of l (ms, member.CustomEvent n d a b c))) ≡ t = cc in
-    subst P q (tree.custom_event line i, refl)
-event_ends l ms n d a b c rows i line t e = absurd cc
-
 pub event_turns : (l : ℕ) (ms : List Modifier) (n : Name) (d : TypeName) (a b c : Option EventAccessor) (rows : List Row) → AreEventAccessors rows a b c → (line : ℕ) (x : Item) (t : Turn)
     → event_turn (event_parts l ms n d a b c) line x ≡ Some t
     → Turned (frame.Event (event_parts l ms n d a b c)) (whole l (item.Declares (header.CustomEvent ms n d)) ∷ rows) (whole line x) t
@@ -236,7 +201,10 @@ event_turns l ms n d a b c rows i line (item.Declares (header.EventAccessor k ps
     let q = if_some (takes_accessor k p) (turn.Opens (frame.Event p) f) t e in
     let P : Turn → Type 0 = λ u. Turned (frame.Event p) (whole l (item.Declares (header.CustomEvent ms n d)) ∷ rows) (whole line (item.Declares (header.EventAccessor k ps))) u in
     subst P q.1 (refl, stands_body refl front_event tree.no_statements, q.0)
-event_turns l ms n d a b c rows i line (item.End word.Event) t e = event_ends l ms n d a b c rows i line t e
+event_turns l ms n d a b c rows i line (item.End word.Event) t e =
+    let p = event_parts l ms n d a b c in
+    let P : Turn → Type 0 = λ u. Turned (frame.Event p) (whole l (item.Declares (header.CustomEvent ms n d)) ∷ rows) (whole line (item.End word.Event)) u in
+    let q : turn.Closes (is.Member (custom_event p)) ≡ t = cc in subst P q (tree.custom_event line i, refl)
 event_turns l ms n d a b c rows i line x t e = absurd cc
 
 -- MEMBERS

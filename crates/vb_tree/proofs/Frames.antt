@@ -1,21 +1,13 @@
 -- The code's steps on frames are those of the mirror.
 use Rattle.std.proofs.Common.{◌≡◌, ℕ, ◌<◌, length, arith, true, false, List, [], ◌∷◌, ◌++◌, reverse, Option, Some, None, Result, refl, ap, sym, ◌∙◌, subst}
 use Rattle.std.proofs.lemmas.List.{reverse-append, length-reverse}
-use Rattle.vb_syntax.specs.declared.statement.Statement.{Statement}
-use Rattle.vb_syntax.specs.declared.item.Item.{Item}
+use Rattle.vb_syntax.specs.declared.{statement.{Statement.Statement, StatementForm.StatementForm}, item.{Item.Item, Joint.Joint}, declaration.Member.Member}
 use Rattle.vb_syntax.specs.declared.item.Item.TheVariants as item
-use Rattle.vb_syntax.specs.declared.item.Joint.{Joint}
 use Rattle.vb_syntax.specs.declared.item.Joint.TheVariants as joint
-use Rattle.vb_blocks.specs.declared.scope.Scope.{Scope}
+use Rattle.vb_blocks.specs.{declared.{scope.Scope.Scope, frame.Frame.Frame, fault.Fault.Fault}, Trees.simple_form, Steps.{State, Gives, line_ends, else_begins, body_step, frame_step, no_statement_in, automatic, last_of, last_property}}
 use Rattle.vb_blocks.specs.declared.scope.Scope.TheVariants as scope
 use Rattle.vb_blocks.specs.declared.scope.LineClause.TheVariants as line_clause
-use Rattle.vb_blocks.specs.declared.frame.Frame.{Frame}
 use Rattle.vb_blocks.specs.declared.frame.Frame.TheVariants as frame
-use Rattle.vb_syntax.specs.declared.statement.StatementForm.{StatementForm}
-use Rattle.vb_syntax.specs.declared.declaration.Member.{Member}
-use Rattle.vb_blocks.specs.declared.fault.Fault.{Fault}
-use Rattle.vb_blocks.specs.Trees.{simple_form}
-use Rattle.vb_blocks.specs.Steps.{State, Gives, line_ends, else_begins, body_step, frame_step, no_statement_in, automatic, last_of, last_property}
 use Rattle.vb_tree.proofs.MemberRows.{popped_append}
 use Rattle.vb_tree.specs.Lines.{in_line, in_else, else_clause, among_below, left}
 

@@ -1,31 +1,19 @@
 -- Where frames stand for rows, a file goes on with them.
 use Rattle.std.proofs.Common.{◌≡◌, ℕ, Bool, true, false, List, [], ◌∷◌, ◌++◌, Option, Some, None, refl, ap, sym, ◌∙◌, append_assoc, append-nil, subst, if◌then◌else◌}
 use Rattle.std.specs.Prelude.{not}
-use Rattle.vb_text.specs.declared.names.Name.{Name}
-use Rattle.vb_syntax.specs.declared.types.TypeName.{TypeName}
+use Rattle.vb_syntax.specs.{declared.{statement.Statement.Statement, declaration.Modifier.Modifier, item.{Item.Item, Row.Row}}, Items.must_override}
 use Rattle.vb_syntax.specs.declared.statement.LoopTest.TheVariants as loop
 use Rattle.vb_syntax.specs.declared.statement.StatementForm.TheVariants as form
-use Rattle.vb_syntax.specs.declared.statement.Statement.{Statement}
-use Rattle.vb_syntax.specs.declared.declaration.Modifier.{Modifier}
-use Rattle.vb_syntax.specs.declared.declaration.Member.{Member}
-use Rattle.vb_syntax.specs.declared.declaration.EventAccessor.{EventAccessor}
 use Rattle.vb_syntax.specs.declared.declaration.TypeForm.TheVariants as type_form
-use Rattle.vb_syntax.specs.declared.item.EventAccessorKind.{EventAccessorKind}
 use Rattle.vb_syntax.specs.declared.item.EventAccessorKind.TheVariants as accessor
 use Rattle.vb_syntax.specs.declared.item.DeclarationLine.TheVariants as header
 use Rattle.vb_syntax.specs.declared.item.BlockWord.TheVariants as word
 use Rattle.vb_syntax.specs.declared.item.Joint.TheVariants as joint
-use Rattle.vb_syntax.specs.declared.item.Item.{Item}
 use Rattle.vb_syntax.specs.declared.item.Item.TheVariants as item
-use Rattle.vb_syntax.specs.declared.item.Row.{Row}
-use Rattle.vb_syntax.specs.Items.{must_override}
-use Rattle.vb_blocks.specs.declared.scope.Scope.{Scope}
+use Rattle.vb_blocks.specs.declared.{scope.{Scope.Scope, AccessorHeader.AccessorHeader}, frame.{Frame.Frame, Whole.Whole}}
 use Rattle.vb_blocks.specs.declared.scope.Scope.TheVariants as scope
-use Rattle.vb_blocks.specs.declared.scope.AccessorHeader.{AccessorHeader}
 use Rattle.vb_blocks.specs.declared.scope.AccessorHeader.TheVariants as accessor_header
-use Rattle.vb_blocks.specs.declared.frame.Frame.{Frame}
 use Rattle.vb_blocks.specs.declared.frame.Frame.TheVariants as frame
-use Rattle.vb_blocks.specs.declared.frame.Whole.{Whole}
 use Rattle.vb_blocks.specs.declared.frame.Whole.TheVariants as is
 use Rattle.vb_blocks.specs.declared.frame.Turn.TheVariants as turn
 use Rattle.vb_blocks.specs.Trees as tree
@@ -64,21 +52,10 @@ use Rattle.vb_blocks.specs.Trees.{
   AreOptions,
   AreImports,
 }
-use Rattle.vb_blocks.specs.Steps.{body, is_line, opened, put, member_opened, procedure_whole, frame_turn, class_of}
-use Rattle.vb_tree.proofs.MemberRows.{parts}
-use Rattle.vb_tree.proofs.FileRows.{class_parts}
-use Rattle.vb_tree.proofs.Standing.{Kind, a_line, a_file, kind_of, takes, IsFront, front_enclosed, front_if, front_else_if, front_else, front_case, front_case_else, front_try, front_catch, front_finally, front_procedure, front_get, front_set, front_event, front_module, front_class, Stands, stands_body, stands_line, stands_select, stands_property, stands_event, stands_members, stands_interface, stands_file, IsWhole, whole_kind, scope_kind}
-use Rattle.vb_tree.proofs.Ends.{grouped}
-use Rattle.vb_syntax.specs.declared.declaration.MemberForm.{MemberForm}
+use Rattle.vb_blocks.specs.{Steps.{body, is_line, opened, put, member_opened, procedure_whole, frame_turn, class_of, property_of, custom_event, with_accessor, line_whole}, Trees.{IsTree, CanGoOn}}
+use Rattle.vb_tree.proofs.{MemberRows.{parts, event_parts}, FileRows.class_parts, Standing.{Kind, a_line, a_file, kind_of, takes, IsFront, front_enclosed, front_if, front_else_if, front_else, front_case, front_case_else, front_try, front_catch, front_finally, front_procedure, front_get, front_set, front_event, front_module, front_class, Stands, stands_body, stands_line, stands_select, stands_property, stands_event, stands_members, stands_interface, stands_file, IsWhole, whole_kind, scope_kind, Holds, bottom, inside}, Ends.grouped, Sound.frame_turns, Holding.{put_holds, line_ended, scope_no_file}}
+use Rattle.vb_syntax.specs.declared.declaration.{MemberForm.MemberForm, SourceFile.SourceFile}
 use Rattle.vb_syntax.specs.declared.declaration.MemberForm.TheVariants as member
-use Rattle.vb_blocks.specs.Steps.{property_of}
-use Rattle.vb_blocks.specs.Steps.{with_accessor}
-use Rattle.vb_tree.proofs.Standing.{Holds, bottom, inside}
-use Rattle.vb_tree.proofs.Sound.{frame_turns}
-use Rattle.vb_blocks.specs.Steps.{line_whole}
-use Rattle.vb_tree.proofs.Holding.{put_holds, line_ended, scope_no_file}
-use Rattle.vb_blocks.specs.Trees.{IsTree, CanGoOn}
-use Rattle.vb_syntax.specs.declared.declaration.SourceFile.{SourceFile}
 use Rattle.vb_syntax.specs.declared.statement.ExitKind.TheVariants as exit
 
 -- fewer rows go on where more do
@@ -159,53 +136,14 @@ body_closes sc ss front rows l (front_event {line = n} {k = accessor.RemoveHandl
 body_closes sc ss front rows l (front_event {line = n} {k = accessor.RaiseEvent} {ps = ps}) d =
     closes (frame.Body sc ss) (front ++ rows) (stands_body l front_event d) (item.End word.RaiseEvent) (is.Event accessor.RaiseEvent (record { line = n; parameters = ps; body = ss })) refl
 
--- an accessor without statements
-empty_accessor : (k : EventAccessorKind) → IsEventAccessor k (whole 0 (item.Declares (header.EventAccessor k [])) ∷ whole 0 (item.End (tree.accessor_word k)) ∷ []) (record { line = 0; parameters = []; body = [] })
-empty_accessor k = tree.accessor_block 0 tree.no_statements
-
--- rows with which an event has all accessors
-pub record Rest (rows : List Row) (l : ℕ) (ms : List Modifier) (n : Name) (d : TypeName) : Type 0 where
-  pub more : List Row
-  pub event : Member
-  pub is : IsMember (whole l (item.Declares (header.CustomEvent ms n d)) ∷ (rows ++ more)) event
-
-rest_of : (rows : List Row) (l : ℕ) (ms : List Modifier) (n : Name) (d : TypeName) (others : List Row) → Rest (rows ++ others) l ms n d → Rest rows l ms n d
-rest_of rows l ms n d others s = record {
-  more = others ++ s.more;
-  event = s.event;
-  is = subst (λ (r : List Row). IsMember (whole l (item.Declares (header.CustomEvent ms n d)) ∷ r) s.event) (append_assoc rows others s.more) s.is;
-}
-
-abbrev accessor_rows : EventAccessorKind → List Row
-accessor_rows k = whole 0 (item.Declares (header.EventAccessor k [])) ∷ whole 0 (item.End (tree.accessor_word k)) ∷ []
-
-module _ (l : ℕ) (ms : List Modifier) (n : Name) (d : TypeName) where
-  all_there : (rows : List Row) (a b c : EventAccessor) → AreEventAccessors rows (Some a) (Some b) (Some c) → Rest rows l ms n d
-  all_there rows a b c i = record { more = whole 0 (item.End word.Event) ∷ []; event = member_of l (ms, member.CustomEvent n d a b c); is = tree.custom_event 0 i }
-
-  raise_there : (rows : List Row) (a b : EventAccessor) (c : Option EventAccessor) → AreEventAccessors rows (Some a) (Some b) c → Rest rows l ms n d
-  raise_there rows a b (Some c) i = all_there rows a b c i
-  raise_there rows a b None i =
-      rest_of rows l ms n d (accessor_rows accessor.RaiseEvent) (all_there (rows ++ accessor_rows accessor.RaiseEvent) a b (record { line = 0; parameters = []; body = [] }) (tree.raise i (empty_accessor accessor.RaiseEvent)))
-
-  remove_there : (rows : List Row) (a : EventAccessor) (b c : Option EventAccessor) → AreEventAccessors rows (Some a) b c → Rest rows l ms n d
-  remove_there rows a (Some b) c i = raise_there rows a b c i
-  remove_there rows a None c i =
-      rest_of rows l ms n d (accessor_rows accessor.RemoveHandler) (raise_there (rows ++ accessor_rows accessor.RemoveHandler) a (record { line = 0; parameters = []; body = [] }) c (tree.remove i (empty_accessor accessor.RemoveHandler)))
-
-  event_closes : (rows : List Row) (a b c : Option EventAccessor) → AreEventAccessors rows a b c → Rest rows l ms n d
-  event_closes rows (Some a) b c i = remove_there rows a b c i
-  event_closes rows None b c i =
-      rest_of rows l ms n d (accessor_rows accessor.AddHandler) (remove_there (rows ++ accessor_rows accessor.AddHandler) (record { line = 0; parameters = []; body = [] }) b c (tree.add i (empty_accessor accessor.AddHandler)))
-
 frame_closes : (f : Frame) (r : List Row) → Stands f r → (kind_of f ≡ a_file → ⊥) → (kind_of f ≡ a_line → ⊥) → Closing f r
 frame_closes f r (stands_body {sc = sc} {ss = ss} {front = a} {rows = b} l fr d) no_file no_line = body_closes sc ss a b l fr d
 frame_closes f r (stands_line fr d) no_file no_line = absurd (no_line refl)
 frame_closes f r (stands_select {line = l} {v = v}) no_file no_line = closes f r stands_select (item.End word.Select) (is.Statement (statement l (form.Select v [] None))) refl
 frame_closes f r (stands_property {line = l} {ms = ms} {h = h} {g = g} {s = s} free i j) no_file no_line =
     closes f r (stands_property free i j) (item.End word.Property) (is.Member (property_of (parts l ms h g s))) refl
-frame_closes f r (stands_event {line = l} {ms = ms} {n = n} {t = d} {a = a} {b = b} {c = c} {rows = rows} i) no_file no_line =
-    let s = event_closes l ms n d rows a b c i in record { rows = s.more; whole = is.Member s.event; is = s.is; kind = refl }
+frame_closes f r (stands_event {line = l} {ms = ms} {n = n} {t = d} {a = a} {b = b} {c = c} i) no_file no_line =
+    closes f r (stands_event i) (item.End word.Event) (is.Member (custom_event (event_parts l ms n d a b c))) refl
 frame_closes f r (stands_members {ms = ms} (front_module {line = l} {a = a} {n = n}) d) no_file no_line =
     closes f r (stands_members front_module d) (item.End word.Module) (is.Type (record { line = l; access = a; name = n; form = type_form.Module ms })) refl
 frame_closes f r (stands_members {ms = ms} (front_class {line = l} {a = a} {c = c} {n = n} {ps = ps} {b = b} {ls = ls} i j) d) no_file no_line =

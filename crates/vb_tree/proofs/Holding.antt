@@ -1,28 +1,18 @@
 -- Whatever rows lead to stands for them.
 use Rattle.std.proofs.Common.{◌≡◌, ℕ, Bool, true, false, List, [], ◌∷◌, ◌++◌, Option, Some, None, refl, ap, sym, ◌∙◌, append_assoc, subst, if◌then◌else◌}
 use Rattle.std.specs.Prelude.{not}
-use Rattle.vb_syntax.specs.declared.expression.Expr.{Expr}
-use Rattle.vb_syntax.specs.declared.statement.StatementForm.{StatementForm}
+use Rattle.vb_syntax.specs.declared.{expression.Expr.Expr, statement.{StatementForm.StatementForm, Statement.Statement}, item.{Joint.Joint, Item.Item, Row.Row}}
 use Rattle.vb_syntax.specs.declared.statement.StatementForm.TheVariants as form
-use Rattle.vb_syntax.specs.declared.statement.Statement.{Statement}
 use Rattle.vb_syntax.specs.declared.item.EventAccessorKind.TheVariants as accessor
 use Rattle.vb_syntax.specs.declared.item.DeclarationLine.TheVariants as header
-use Rattle.vb_syntax.specs.declared.item.Joint.{Joint}
 use Rattle.vb_syntax.specs.declared.item.Joint.TheVariants as joint
-use Rattle.vb_syntax.specs.declared.item.Item.{Item}
 use Rattle.vb_syntax.specs.declared.item.Item.TheVariants as item
-use Rattle.vb_syntax.specs.declared.item.Row.{Row}
-use Rattle.vb_blocks.specs.declared.scope.Scope.{Scope}
+use Rattle.vb_blocks.specs.declared.{scope.{Scope.Scope, AccessorHeader.AccessorHeader, LineClause.LineClause}, frame.{Frame.Frame, Whole.Whole, Turn.Turn}}
 use Rattle.vb_blocks.specs.declared.scope.Scope.TheVariants as scope
-use Rattle.vb_blocks.specs.declared.scope.AccessorHeader.{AccessorHeader}
 use Rattle.vb_blocks.specs.declared.scope.AccessorHeader.TheVariants as accessor_header
-use Rattle.vb_blocks.specs.declared.scope.LineClause.{LineClause}
 use Rattle.vb_blocks.specs.declared.scope.LineClause.TheVariants as line_clause
-use Rattle.vb_blocks.specs.declared.frame.Frame.{Frame}
 use Rattle.vb_blocks.specs.declared.frame.Frame.TheVariants as frame
-use Rattle.vb_blocks.specs.declared.frame.Whole.{Whole}
 use Rattle.vb_blocks.specs.declared.frame.Whole.TheVariants as is
-use Rattle.vb_blocks.specs.declared.frame.Turn.{Turn}
 use Rattle.vb_blocks.specs.declared.frame.Turn.TheVariants as turn
 use Rattle.vb_blocks.specs.Trees as tree
 use Rattle.vb_blocks.specs.Trees.{
@@ -60,16 +50,8 @@ use Rattle.vb_blocks.specs.Trees.{
   AreOptions,
   AreImports,
 }
-use Rattle.vb_blocks.specs.Steps.{body, is_line, put, frame_turn}
-use Rattle.vb_tree.proofs.MemberRows.{parts, event_parts}
-use Rattle.vb_tree.proofs.FileRows.{file_parts}
-use Rattle.vb_tree.proofs.Standing.{Kind, a_file, kind_of, takes, IsLineFront, front_then, front_line_else, Stands, stands_body, stands_line, stands_property, stands_event, stands_members, stands_file, IsWhole, whole_kind, scope_kind}
-use Rattle.vb_tree.proofs.Ends.{AreParted, none_parted, grouped, no_more, last_parted, one_parted, one_statement, one_member, one_type}
-use Rattle.vb_blocks.specs.Steps.{State, turned, placed}
-use Rattle.vb_tree.proofs.Standing.{Holds, bottom, inside}
-use Rattle.vb_tree.proofs.StatementRows.{line_over}
-use Rattle.vb_tree.proofs.Sound.{frame_turns}
-use Rattle.vb_blocks.specs.Steps.{line_ends, else_begins, line_whole, statement_ends, no_statement, body_step, frame_step}
+use Rattle.vb_blocks.specs.Steps.{body, is_line, put, frame_turn, State, turned, placed, line_ends, else_begins, line_whole, statement_ends, no_statement, body_step, frame_step}
+use Rattle.vb_tree.proofs.{MemberRows.{parts, event_parts}, FileRows.file_parts, Standing.{Kind, a_file, kind_of, takes, IsLineFront, front_then, front_line_else, Stands, stands_body, stands_line, stands_property, stands_event, stands_members, stands_file, IsWhole, whole_kind, scope_kind, Holds, bottom, inside}, Ends.{AreParted, none_parted, grouped, no_more, last_parted, one_parted, one_statement, one_member, one_type}, StatementRows.line_over, Sound.frame_turns}
 
 -- A PART IN ITS FRAME
 

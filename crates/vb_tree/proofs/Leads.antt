@@ -1,16 +1,9 @@
 -- What rows lead to, one behind the other.
 use Rattle.std.proofs.Common.{◌≡◌, ℕ, Bool, false, List, [], ◌∷◌, ◌++◌, Option, Some, None, refl, ap, ◌∙◌, subst, if◌then◌else◌}
-use Rattle.vb_syntax.specs.declared.statement.StatementForm.{StatementForm}
-use Rattle.vb_syntax.specs.declared.statement.Statement.{Statement}
-use Rattle.vb_syntax.specs.declared.item.Item.{Item}
-use Rattle.vb_syntax.specs.declared.item.Joint.{Joint}
+use Rattle.vb_syntax.specs.declared.{statement.{StatementForm.StatementForm, Statement.Statement}, item.{Item.Item, Joint.Joint, Row.Row}}
 use Rattle.vb_syntax.specs.declared.item.Joint.TheVariants as joint
-use Rattle.vb_syntax.specs.declared.item.Row.{Row}
-use Rattle.vb_blocks.specs.declared.scope.Scope.{Scope}
-use Rattle.vb_blocks.specs.declared.frame.Frame.{Frame}
+use Rattle.vb_blocks.specs.{declared.{scope.Scope.Scope, frame.Frame.Frame}, Trees.{row, whole, statement, simple_form}, Steps.{State, step, run, run_on, is_line, opened, opened_or_turned, scope_turn, turned, body_step, statement_ends}}
 use Rattle.vb_blocks.specs.declared.frame.Frame.TheVariants as frame
-use Rattle.vb_blocks.specs.Trees.{row, whole, statement, simple_form}
-use Rattle.vb_blocks.specs.Steps.{State, step, run, run_on, is_line, opened, opened_or_turned, scope_turn, turned, body_step, statement_ends}
 
 pub data Leads : Frame → List Frame → List Row → Frame → List Frame → Type 0 where
   here : {f : Frame} {fs : List Frame} → Leads f fs [] f fs

@@ -7,9 +7,11 @@ pub mod FrameTurns
 pub mod Frames
 pub mod GoingOn
 pub mod Holding
+pub mod Inside
 pub mod Leads
 pub mod Linking
 pub mod MemberRows
+pub mod NoneOpen
 pub mod Placed
 pub mod Placing
 pub mod Reaching
@@ -18,5 +20,8 @@ pub mod Sound
 pub mod Standing
 pub mod StatementMarks
 pub mod StatementRows
+pub mod TreeEnds
+pub mod TreeItems
+pub mod TreePlaces
 pub mod Turning
 pub mod Unended

@@ -1,40 +1,21 @@
 -- The rows of a member lead from the members before it to those with it.
 use Rattle.std.proofs.Common.{◌≡◌, ℕ, Bool, true, false, List, [], ◌∷◌, ◌++◌, Option, Some, None, refl, ap, sym, ◌∙◌, append_assoc, append-nil, if◌then◌else◌}
 use Rattle.vb_text.specs.declared.names.Name.{Name}
-use Rattle.vb_syntax.specs.declared.types.TypeName.{TypeName}
-use Rattle.vb_syntax.specs.declared.statement.Statement.{Statement}
-use Rattle.vb_syntax.specs.declared.declaration.Modifier.{Modifier}
-use Rattle.vb_syntax.specs.declared.declaration.MemberForm.{MemberForm}
+use Rattle.vb_syntax.specs.{declared.{types.TypeName.TypeName, statement.Statement.Statement, declaration.{Modifier.Modifier, MemberForm.MemberForm, Member.Member, Parameter.Parameter, GetAccessor.GetAccessor, SetAccessor.SetAccessor, EventAccessor.EventAccessor}, item.{PropertyHeader.PropertyHeader, EventAccessorKind.EventAccessorKind, Item.Item, Row.Row}}, Items.must_override}
 use Rattle.vb_syntax.specs.declared.declaration.MemberForm.TheVariants as member
-use Rattle.vb_syntax.specs.declared.declaration.Member.{Member}
-use Rattle.vb_syntax.specs.declared.declaration.Parameter.{Parameter}
-use Rattle.vb_syntax.specs.declared.declaration.GetAccessor.{GetAccessor}
-use Rattle.vb_syntax.specs.declared.declaration.SetAccessor.{SetAccessor}
-use Rattle.vb_syntax.specs.declared.declaration.EventAccessor.{EventAccessor}
-use Rattle.vb_syntax.specs.declared.item.PropertyHeader.{PropertyHeader}
-use Rattle.vb_syntax.specs.declared.item.EventAccessorKind.{EventAccessorKind}
 use Rattle.vb_syntax.specs.declared.item.EventAccessorKind.TheVariants as accessor
 use Rattle.vb_syntax.specs.declared.item.DeclarationLine.TheVariants as header
-use Rattle.vb_syntax.specs.declared.item.Item.{Item}
 use Rattle.vb_syntax.specs.declared.item.Item.TheVariants as item
 use Rattle.vb_syntax.specs.declared.item.BlockWord.TheVariants as word
 use Rattle.vb_syntax.specs.declared.item.Joint.TheVariants as joint
-use Rattle.vb_syntax.specs.declared.item.Row.{Row}
-use Rattle.vb_syntax.specs.Items.{must_override}
 use Rattle.vb_ends.specs.Roles.{goes_on_property}
 use Rattle.vb_blocks.specs.declared.scope.Scope.TheVariants as scope
 use Rattle.vb_blocks.specs.declared.scope.AccessorHeader.TheVariants as accessor_header
-use Rattle.vb_blocks.specs.declared.frame.Frame.{Frame}
+use Rattle.vb_blocks.specs.{declared.frame.{Frame.Frame, PropertyParts.PropertyParts, EventParts.EventParts, TypeHeader.TypeHeader}, Trees.{whole, member_of, simple_form, bare_member, procedure, IsGet, IsSet, none, some, IsEventAccessor, accessor_block, AreEventAccessors, nothing, add, remove, raise, IsMember, bare, block, property, custom_event, AreMembers, more}, Steps.{step, body, opened, turned, put_below, placed, member_or_header, member_opened, procedure_whole, property_of, popped, popped_behind, reopened_last, reopened_as, reopened_step, takes_accessor, with_accessor}}
 use Rattle.vb_blocks.specs.declared.frame.Frame.TheVariants as frame
-use Rattle.vb_blocks.specs.declared.frame.PropertyParts.{PropertyParts}
-use Rattle.vb_blocks.specs.declared.frame.EventParts.{EventParts}
-use Rattle.vb_blocks.specs.declared.frame.TypeHeader.{TypeHeader}
 use Rattle.vb_blocks.specs.declared.frame.Turn.TheVariants as turn
 use Rattle.vb_blocks.specs.declared.frame.Whole.TheVariants as is
-use Rattle.vb_blocks.specs.Trees.{whole, member_of, simple_form, bare_member, procedure, IsGet, IsSet, none, some, IsEventAccessor, accessor_block, AreEventAccessors, nothing, add, remove, raise, IsMember, bare, block, property, custom_event, AreMembers, more}
-use Rattle.vb_blocks.specs.Steps.{step, body, opened, turned, put_below, placed, member_or_header, member_opened, procedure_whole, property_of, popped, popped_behind, reopened_last, reopened_as, reopened_step, takes_accessor, with_accessor}
-use Rattle.vb_tree.proofs.Leads.{Leads, here, on, and_on, leads_to, step_turns}
-use Rattle.vb_tree.proofs.StatementRows.{statements_lead}
+use Rattle.vb_tree.proofs.{Leads.{Leads, here, on, and_on, leads_to, step_turns}, StatementRows.statements_lead}
 
 -- WITHOUT A BLOCK
 

@@ -1,10 +1,8 @@
 -- Where the rows of a file are misplaced: in one line at most, and in none where they lead to their end.
 use Rattle.std.proofs.Common.{◌≡◌, ℕ, List, [], ◌∷◌, ◌++◌, Option, Some, None, refl, ap, sym, ◌∙◌, append_assoc, subst}
 use Rattle.vb_syntax.specs.declared.item.Row.{Row}
-use Rattle.vb_blocks.specs.Trees.{CanGoOn, IsMisplaced}
-use Rattle.vb_blocks.specs.Steps.{State, run, run_on, start}
-use Rattle.vb_tree.proofs.GoingOn.{fewer}
-use Rattle.vb_tree.proofs.Placing.{run_then, begins}
+use Rattle.vb_blocks.specs.{Trees.{CanGoOn, IsMisplaced}, Steps.{State, run, run_on, start}}
+use Rattle.vb_tree.proofs.{GoingOn.fewer, Placing.{run_then, begins}}
 
 -- rows that lead somewhere do so as far as any of them
 led : (more : List Row) (o : Option State) (st : State) → run_on (run more) o ≡ Some st → (q : State) × (o ≡ Some q)

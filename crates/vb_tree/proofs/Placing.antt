@@ -1,14 +1,8 @@
 -- A row at which no step goes on is misplaced.
 use Rattle.std.proofs.Common.{◌≡◌, ℕ, List, [], ◌∷◌, ◌++◌, Option, Some, None, refl, ap, sym, ◌∙◌, append_assoc}
-use Rattle.vb_syntax.specs.declared.declaration.SourceFile.{SourceFile}
-use Rattle.vb_syntax.specs.declared.item.Row.{Row}
-use Rattle.vb_blocks.specs.declared.frame.Frame.{Frame}
-use Rattle.vb_blocks.specs.Trees.{IsTree, CanGoOn, IsMisplaced}
-use Rattle.vb_blocks.specs.Steps.{State, step, run, run_on, start, finished}
-use Rattle.vb_tree.proofs.Leads.{leads_run}
-use Rattle.vb_tree.proofs.FileRows.{tree_leads}
-use Rattle.vb_tree.proofs.Building.{rows_hold, finished_is}
-use Rattle.vb_tree.proofs.GoingOn.{goes_on}
+use Rattle.vb_syntax.specs.declared.{declaration.SourceFile.SourceFile, item.Row.Row}
+use Rattle.vb_blocks.specs.{declared.frame.Frame.Frame, Trees.{IsTree, CanGoOn, IsMisplaced}, Steps.{State, step, run, run_on, start, finished}}
+use Rattle.vb_tree.proofs.{Leads.leads_run, FileRows.tree_leads, Building.{rows_hold, finished_is}, GoingOn.goes_on}
 
 on_then : (a b : List Row) (o : Option State) → ((st : State) → run (a ++ b) st.0 st.1 ≡ run_on (run b) (run a st.0 st.1)) → run_on (run (a ++ b)) o ≡ run_on (run b) (run_on (run a) o)
 on_then a b None h = refl

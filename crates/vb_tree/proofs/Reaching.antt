@@ -2,11 +2,8 @@
 use Rattle.std.proofs.Common.{◌≡◌, List, [], ◌∷◌, ◌++◌, reverse, Option, Some, None, refl, sym, ap, subst, ◌∙◌, append_assoc}
 use Rattle.std.proofs.lemmas.List.{append-nil}
 use Rattle.vb_syntax.specs.declared.item.Row.{Row}
-use Rattle.vb_blocks.specs.declared.frame.Frame.{Frame}
-use Rattle.vb_blocks.specs.Trees.{IsMisplaced}
-use Rattle.vb_blocks.specs.Steps.{State, step, run, run_on, start}
-use Rattle.vb_tree.proofs.Placing.{run_then, misplaced}
-use Rattle.vb_tree.proofs.Frames.{reverse_last}
+use Rattle.vb_blocks.specs.{declared.frame.Frame.Frame, Trees.IsMisplaced, Steps.{State, step, run, run_on, start}}
+use Rattle.vb_tree.proofs.{Placing.{run_then, misplaced}, Frames.reverse_last}
 
 -- The rows begin with some that lead to these frames, and the rest is still to come, here from the last.
 pub record Reaches (rows rest : List Row) (top : Frame) (below : List Frame) : Type 0 where

@@ -1,29 +1,18 @@
 -- Which block each frame is, and what a turn of the innermost frame does to the blocks that are open.
 use Rattle.std.proofs.Common.{◌≡◌, ℕ, Bool, true, false, List, [], ◌∷◌, ◌++◌, Option, Some, None, refl, ap, sym, ◌∙◌, subst, if◌then◌else◌}
-use Rattle.vb_syntax.specs.declared.statement.Statement.{Statement}
-use Rattle.vb_syntax.specs.declared.declaration.Member.{Member}
+use Rattle.vb_syntax.specs.declared.{statement.Statement.Statement, declaration.Member.Member, item.Item.Item}
 use Rattle.vb_syntax.specs.declared.item.DeclarationLine.TheVariants as header
-use Rattle.vb_syntax.specs.declared.item.Item.{Item}
 use Rattle.vb_syntax.specs.declared.item.Item.TheVariants as item
-use Rattle.vb_ends.specs.declared.role.Sort.{Sort}
+use Rattle.vb_ends.specs.{declared.role.{Sort.Sort, Role.Role, Mark.Mark}, Roles.{accessor_sort, goes_on_property, item_role, AreOpenBehind, opens, ends, stays}}
 use Rattle.vb_ends.specs.declared.role.Sort.TheVariants as sort
-use Rattle.vb_ends.specs.declared.role.Role.{Role}
 use Rattle.vb_ends.specs.declared.role.Role.TheVariants as role
-use Rattle.vb_ends.specs.declared.role.Mark.{Mark}
-use Rattle.vb_ends.specs.Roles.{accessor_sort, goes_on_property, item_role, keeps_in_interface, AreOpenBehind, opens, ends, stays}
-use Rattle.vb_blocks.specs.declared.scope.Scope.{Scope}
+use Rattle.vb_blocks.specs.{declared.{scope.{Scope.Scope, AccessorHeader.AccessorHeader}, frame.{Frame.Frame, TypeHeader.TypeHeader, Whole.Whole, Turn.Turn}}, Steps.{State, is_line, takes_get, takes_set, takes_accessor, with_accessor, put, placed, turned, popped, automatic, reopened, reopened_last, reopened_as}}
 use Rattle.vb_blocks.specs.declared.scope.Scope.TheVariants as scope
-use Rattle.vb_blocks.specs.declared.scope.AccessorHeader.{AccessorHeader}
 use Rattle.vb_blocks.specs.declared.scope.AccessorHeader.TheVariants as accessor_header
-use Rattle.vb_blocks.specs.declared.frame.Frame.{Frame}
 use Rattle.vb_blocks.specs.declared.frame.Frame.TheVariants as frame
-use Rattle.vb_blocks.specs.declared.frame.TypeHeader.{TypeHeader}
 use Rattle.vb_blocks.specs.declared.frame.TypeHeader.TheVariants as type_header
-use Rattle.vb_blocks.specs.declared.frame.Whole.{Whole}
 use Rattle.vb_blocks.specs.declared.frame.Whole.TheVariants as is
-use Rattle.vb_blocks.specs.declared.frame.Turn.{Turn}
 use Rattle.vb_blocks.specs.declared.frame.Turn.TheVariants as turn
-use Rattle.vb_blocks.specs.Steps.{State, is_line, takes_get, takes_set, takes_accessor, with_accessor, put, placed, turned, popped, automatic, reopened, reopened_last, reopened_as}
 use Rattle.vb_tree.proofs.MemberRows.{popped_append}
 
 -- SORTS
@@ -154,7 +143,6 @@ IsPlain w = Unit {0}
 
 pub record Settles (g f : Frame) : Type 0 where
   pub same : frame_sort f ≡ frame_sort g
-  pub outside : is_interface f ≡ false
   pub settled : IsSettled f
 
 settles_as : (g f k : Frame) → Settles g f → ◌≡◌ {A = Option Frame} (Some f) (Some k) → Settles g k
@@ -165,21 +153,21 @@ settles_if true g f k s e = settles_as g f k s e
 settles_if false g f k s e = absurd cc
 
 pub put_settles : (w : Whole) (g f : Frame) → IsPlain w → put w g ≡ Some f → Settles g f
-put_settles (is.Statement s) (frame.Body sc ss) f p e = settles_as (frame.Body sc ss) (frame.Body sc (ss ++ s ∷ [])) f (record { same = refl; outside = refl; settled = settled_body sc (ss ++ s ∷ []) }) e
+put_settles (is.Statement s) (frame.Body sc ss) f p e = settles_as (frame.Body sc ss) (frame.Body sc (ss ++ s ∷ [])) f (record { same = refl; settled = settled_body sc (ss ++ s ∷ []) }) e
 put_settles (is.Member m) (frame.Members h ms) f p e =
-    settles_as (frame.Members h ms) (frame.Members h (ms ++ m ∷ [])) f (record { same = refl; outside = refl; settled = settled_with h ms m p }) e
+    settles_as (frame.Members h ms) (frame.Members h (ms ++ m ∷ [])) f (record { same = refl; settled = settled_with h ms m p }) e
 put_settles (is.Get a) (frame.Property p) f i e =
     let g : Frame = frame.Property (record { line = p.line; modifiers = p.modifiers; header = p.header; get = Some a; set = p.set }) in
-    settles_if (takes_get p.get p.set) (frame.Property p) g f (record { same = refl; outside = refl; settled = settled_other g refl }) e
+    settles_if (takes_get p.get p.set) (frame.Property p) g f (record { same = refl; settled = settled_other g refl }) e
 put_settles (is.Set a) (frame.Property p) f i e =
     let g : Frame = frame.Property (record { line = p.line; modifiers = p.modifiers; header = p.header; get = p.get; set = Some a }) in
-    settles_if (takes_set p.set) (frame.Property p) g f (record { same = refl; outside = refl; settled = settled_other g refl }) e
+    settles_if (takes_set p.set) (frame.Property p) g f (record { same = refl; settled = settled_other g refl }) e
 put_settles (is.Event k a) (frame.Event v) f i e =
     let g : Frame = frame.Event (with_accessor v k a) in
-    settles_if (takes_accessor k v) (frame.Event v) g f (record { same = refl; outside = refl; settled = settled_other g refl }) e
+    settles_if (takes_accessor k v) (frame.Event v) g f (record { same = refl; settled = settled_other g refl }) e
 put_settles (is.Type t) (frame.File p) f i e =
     let g : Frame = frame.File (record { options = p.options; imports = p.imports; types = p.types ++ t ∷ [] }) in
-    settles_as (frame.File p) g f (record { same = refl; outside = refl; settled = settled_other g refl }) e
+    settles_as (frame.File p) g f (record { same = refl; settled = settled_other g refl }) e
 put_settles w g f p e = absurd cc
 
 -- WHAT A TURN DOES
@@ -188,7 +176,6 @@ put_settles w g f p e = absurd cc
 pub record Goes (f : Frame) (x : Item) (g : Frame) : Type 0 where
   pub leaves : (next : Option Item) (fs : List Frame) (st : State) → reopened_at next g fs ≡ Some st
       → Leaves (item_role (is_interface f) (Some x) next) (open_sorts (f ∷ fs)) (open_sorts (st.0 ∷ st.1))
-  pub inside : keeps_in_interface (Some x) (is_interface f) ≡ is_interface g
 
 -- a frame, now the second, in which an item begins the third
 pub record Opens (f : Frame) (x : Item) (g h : Frame) : Type 0 where
@@ -196,7 +183,6 @@ pub record Opens (f : Frame) (x : Item) (g h : Frame) : Type 0 where
   pub same : frame_sort g ≡ frame_sort f
   pub new : frame_sort h ≡ Some one
   pub is_opened : (next : Option Item) → item_role (is_interface f) (Some x) next ≡ role.Opens one
-  pub inside : keeps_in_interface (Some x) (is_interface f) ≡ is_interface h
   pub settled : IsSettled h
 
 -- a frame that an item ends
@@ -204,7 +190,6 @@ pub record Closes (f : Frame) (x : Item) (w : Whole) : Type 0 where
   pub one : Sort
   pub old : frame_sort f ≡ Some one
   pub is_ended : (next : Option Item) → item_role (is_interface f) (Some x) next ≡ role.Ends one
-  pub inside : keeps_in_interface (Some x) (is_interface f) ≡ false
   pub plain : IsPlain w
 
 abbrev pub Marked : Frame → Item → Turn → Type 0
@@ -220,18 +205,16 @@ marked_if true f x s t m e = marked_as f x s t m e
 marked_if false f x s t m e = absurd cc
 
 pub goes_settled : (f : Frame) (x : Item) (g : Frame) → frame_sort g ≡ frame_sort f → IsSettled g → ((next : Option Item) → item_role (is_interface f) (Some x) next ≡ role.Stays)
-    → keeps_in_interface (Some x) (is_interface f) ≡ is_interface g → Goes f x g
-goes_settled f x g same settled is inside = record {
+    → Goes f x g
+goes_settled f x g same settled is = record {
   leaves = λ next fs st e. let P : Role → Type 0 = λ r. Leaves r (open_sorts (f ∷ fs)) (open_sorts (st.0 ∷ st.1)) in
       subst P (sym (is next)) (ap (λ (q : State). open_sorts (q.0 ∷ q.1)) (sym (settled next fs st e)) ∙ ap (λ (o : Option Sort). grown o (open_sorts fs)) same);
-  inside = inside;
 }
 
 -- behind an item that ends its line's statements
 pub record After (f : Frame) (fs : List Frame) (x : Item) (to : State) : Type 0 where
   pub leaves : (next : Option Item) (st : State) → reopened_at next to.0 to.1 ≡ Some st
       → Leaves (item_role (is_interface f) (Some x) next) (open_sorts (f ∷ fs)) (open_sorts (st.0 ∷ st.1))
-  pub inside : keeps_in_interface (Some x) (is_interface f) ≡ is_interface to.0
 
 after_as : (f : Frame) (fs : List Frame) (x : Item) (p q : State) → After f fs x p → ◌≡◌ {A = Option State} (Some p) (Some q) → After f fs x q
 after_as f fs x p q a e = let P : State → Type 0 = λ u. After f fs x u in subst P (some_state p q e) a
@@ -244,18 +227,16 @@ closes_into f x w g fs c (Some k) was to e =
       leaves = λ next st r. let P : Role → Type 0 = λ v. Leaves v (open_sorts (f ∷ g ∷ fs)) (open_sorts (st.0 ∷ st.1)) in
           subst P (sym (c.is_ended next)) (ap (λ (o : Option Sort). grown o (open_sorts (g ∷ fs))) c.old
           ∙ ap (λ (o : Option Sort). c.one ∷ grown o (open_sorts fs)) (sym s.same) ∙ ap (λ (q : State). c.one ∷ open_sorts (q.0 ∷ q.1)) (s.settled next fs st r));
-      inside = c.inside ∙ sym s.outside;
     } in
     after_as f (g ∷ fs) x (k, fs) to a e
 
 pub turned_after : (f : Frame) (fs : List Frame) (x : Item) (t : Turn) → Marked f x t → (to : State) → turned (Some t) fs ≡ Some to → After f fs x to
-turned_after f fs x (turn.Goes g) m to e = after_as f fs x (g, fs) to (record { leaves = λ next st r. m.leaves next fs st r; inside = m.inside }) e
+turned_after f fs x (turn.Goes g) m to e = after_as f fs x (g, fs) to (record { leaves = λ next st r. m.leaves next fs st r }) e
 turned_after f fs x (turn.Opens g h) m to e =
     let a : After f fs x (h, g ∷ fs) = record {
       leaves = λ next st r. let P : Role → Type 0 = λ v. Leaves v (open_sorts (f ∷ fs)) (open_sorts (st.0 ∷ st.1)) in
           subst P (sym (m.is_opened next)) (ap (λ (q : State). open_sorts (q.0 ∷ q.1)) (sym (m.settled next (g ∷ fs) st r))
           ∙ ap (λ (o : Option Sort). grown o (open_sorts (g ∷ fs))) m.new ∙ ap (λ (o : Option Sort). m.one ∷ grown o (open_sorts fs)) m.same);
-      inside = m.inside;
     } in
     after_as f fs x (h, g ∷ fs) to a e
 turned_after f [] x (turn.Closes w) m to e = absurd cc

@@ -1,25 +1,15 @@
 -- The frames stand for the rows that led to them.
 use Rattle.std.proofs.Common.{◌≡◌, ℕ, List, [], ◌∷◌, ◌++◌, Option, Some, None, refl, append_assoc, append-nil, subst}
 use Rattle.vb_text.specs.declared.names.Name.{Name}
-use Rattle.vb_syntax.specs.declared.types.TypeParameter.{TypeParameter}
-use Rattle.vb_syntax.specs.declared.declaration.Access.{Access}
-use Rattle.vb_syntax.specs.declared.declaration.InterfaceList.{InterfaceList}
-use Rattle.vb_syntax.specs.declared.declaration.InterfaceMember.{InterfaceMember}
-use Rattle.vb_syntax.specs.declared.declaration.InterfaceHeader.{InterfaceHeader}
+use Rattle.vb_syntax.specs.declared.{types.TypeParameter.TypeParameter, declaration.{Access.Access, InterfaceList.InterfaceList, InterfaceMember.InterfaceMember, InterfaceHeader.InterfaceHeader, TypeDeclaration.TypeDeclaration, OptionStatement.OptionStatement, ImportsStatement.ImportsStatement}, item.{Item.Item, Row.Row}}
 use Rattle.vb_syntax.specs.declared.declaration.TypeForm.TheVariants as type_form
-use Rattle.vb_syntax.specs.declared.declaration.TypeDeclaration.{TypeDeclaration}
-use Rattle.vb_syntax.specs.declared.declaration.OptionStatement.{OptionStatement}
-use Rattle.vb_syntax.specs.declared.declaration.ImportsStatement.{ImportsStatement}
 use Rattle.vb_syntax.specs.declared.item.DeclarationLine.TheVariants as header
 use Rattle.vb_syntax.specs.declared.item.BlockWord.TheVariants as word
-use Rattle.vb_syntax.specs.declared.item.Item.{Item}
 use Rattle.vb_syntax.specs.declared.item.Item.TheVariants as item
-use Rattle.vb_syntax.specs.declared.item.Row.{Row}
-use Rattle.vb_blocks.specs.declared.frame.Frame.{Frame}
+use Rattle.vb_blocks.specs.declared.frame.{Frame.Frame, Turn.Turn}
 use Rattle.vb_blocks.specs.declared.frame.Frame.TheVariants as frame
 use Rattle.vb_blocks.specs.declared.frame.TypeHeader.TheVariants as type_header
 use Rattle.vb_blocks.specs.declared.frame.Whole.TheVariants as is
-use Rattle.vb_blocks.specs.declared.frame.Turn.{Turn}
 use Rattle.vb_blocks.specs.declared.frame.Turn.TheVariants as turn
 use Rattle.vb_blocks.specs.Trees as tree
 use Rattle.vb_blocks.specs.Trees.{
@@ -58,10 +48,7 @@ use Rattle.vb_blocks.specs.Trees.{
   AreImports,
 }
 use Rattle.vb_blocks.specs.Steps.{frame_turn, interface_at, interface_more, file_turn}
-use Rattle.vb_tree.proofs.FileRows.{class_parts, interface_parts, file_parts}
-use Rattle.vb_tree.proofs.Standing.{front_module, front_class, Stands, stands_body, stands_line, stands_select, stands_property, stands_event, stands_members, stands_interface, stands_file, Turned}
-use Rattle.vb_tree.proofs.Ends.{grouped, one_type, one_option, one_imports, one_list, one_header}
-use Rattle.vb_tree.proofs.FrameTurns.{body_turns, select_turns_first, property_turns, event_turns, members_turns}
+use Rattle.vb_tree.proofs.{FileRows.{class_parts, interface_parts, file_parts}, Standing.{front_module, front_class, Stands, stands_body, stands_line, stands_select, stands_property, stands_event, stands_members, stands_interface, stands_file, Turned}, Ends.{grouped, one_type, one_option, one_imports, one_list, one_header}, FrameTurns.{body_turns, select_turns_first, property_turns, event_turns, members_turns}}
 
 -- INTERFACES AND FILES
 

@@ -2,59 +2,22 @@
 use Rattle.std.proofs.Common.{◌≡◌, ℕ, Bool, true, false, List, [], ◌∷◌, ◌++◌, Option, Some, None}
 use Rattle.std.specs.Prelude.{not}
 use Rattle.vb_text.specs.declared.names.Name.{Name}
-use Rattle.vb_syntax.specs.declared.types.TypeName.{TypeName}
-use Rattle.vb_syntax.specs.declared.types.TypeParameter.{TypeParameter}
-use Rattle.vb_syntax.specs.declared.expression.Expr.{Expr}
-use Rattle.vb_syntax.specs.declared.statement.CaseItem.{CaseItem}
-use Rattle.vb_syntax.specs.declared.statement.CatchVariable.{CatchVariable}
-use Rattle.vb_syntax.specs.declared.statement.Statement.{Statement}
-use Rattle.vb_syntax.specs.declared.declaration.Access.{Access}
-use Rattle.vb_syntax.specs.declared.declaration.Modifier.{Modifier}
-use Rattle.vb_syntax.specs.declared.declaration.Parameter.{Parameter}
-use Rattle.vb_syntax.specs.declared.declaration.Member.{Member}
-use Rattle.vb_syntax.specs.declared.declaration.GetAccessor.{GetAccessor}
-use Rattle.vb_syntax.specs.declared.declaration.SetAccessor.{SetAccessor}
-use Rattle.vb_syntax.specs.declared.declaration.EventAccessor.{EventAccessor}
-use Rattle.vb_syntax.specs.declared.declaration.ClassModifier.{ClassModifier}
-use Rattle.vb_syntax.specs.declared.declaration.ClassBase.{ClassBase}
-use Rattle.vb_syntax.specs.declared.declaration.InterfaceList.{InterfaceList}
-use Rattle.vb_syntax.specs.declared.declaration.InterfaceMember.{InterfaceMember}
-use Rattle.vb_syntax.specs.declared.declaration.TypeDeclaration.{TypeDeclaration}
-use Rattle.vb_syntax.specs.declared.declaration.OptionStatement.{OptionStatement}
-use Rattle.vb_syntax.specs.declared.declaration.ImportsStatement.{ImportsStatement}
-use Rattle.vb_syntax.specs.declared.item.PropertyHeader.{PropertyHeader}
-use Rattle.vb_syntax.specs.declared.item.EventAccessorKind.{EventAccessorKind}
+use Rattle.vb_syntax.specs.{declared.{types.{TypeName.TypeName, TypeParameter.TypeParameter}, expression.Expr.Expr, statement.{CaseItem.CaseItem, CatchVariable.CatchVariable, Statement.Statement}, declaration.{Access.Access, Modifier.Modifier, Parameter.Parameter, Member.Member, GetAccessor.GetAccessor, SetAccessor.SetAccessor, EventAccessor.EventAccessor, ClassModifier.ClassModifier, ClassBase.ClassBase, InterfaceList.InterfaceList, InterfaceMember.InterfaceMember, TypeDeclaration.TypeDeclaration, OptionStatement.OptionStatement, ImportsStatement.ImportsStatement}, item.{PropertyHeader.PropertyHeader, EventAccessorKind.EventAccessorKind, Item.Item, Row.Row}}, Items.must_override}
 use Rattle.vb_syntax.specs.declared.item.DeclarationLine.TheVariants as header
 use Rattle.vb_syntax.specs.declared.item.Joint.TheVariants as joint
-use Rattle.vb_syntax.specs.declared.item.Item.{Item}
 use Rattle.vb_syntax.specs.declared.item.Item.TheVariants as item
-use Rattle.vb_syntax.specs.declared.item.Row.{Row}
-use Rattle.vb_syntax.specs.Items.{must_override}
-use Rattle.vb_blocks.specs.declared.scope.Scope.{Scope}
+use Rattle.vb_blocks.specs.{declared.{scope.{Scope.Scope, IfParts.IfParts, SelectParts.SelectParts, TryParts.TryParts, AccessorHeader.AccessorHeader, LineClause.LineClause}, frame.{Frame.Frame, TypeHeader.TypeHeader, Whole.Whole, Turn.Turn}}, Trees.{row, whole, bare_member, AreSimple, IsStatement, AreStatements, AreElseIfs, AreCases, AreCatches, IsGet, IsSet, IsEventAccessor, AreEventAccessors, IsMember, AreMembers, IsBase, AreInterfaceLists, AreInterfaceMembers, IsType, AreTypes, AreOptions, AreImports}, Steps.{body, is_line, opened, takes_get, takes_set, takes_accessor, member_opened}}
 use Rattle.vb_blocks.specs.declared.scope.Scope.TheVariants as scope
-use Rattle.vb_blocks.specs.declared.scope.IfParts.{IfParts}
 use Rattle.vb_blocks.specs.declared.scope.IfClause.TheVariants as if_clause
-use Rattle.vb_blocks.specs.declared.scope.SelectParts.{SelectParts}
 use Rattle.vb_blocks.specs.declared.scope.SelectClause.TheVariants as select_clause
-use Rattle.vb_blocks.specs.declared.scope.TryParts.{TryParts}
 use Rattle.vb_blocks.specs.declared.scope.TryClause.TheVariants as try_clause
-use Rattle.vb_blocks.specs.declared.scope.AccessorHeader.{AccessorHeader}
 use Rattle.vb_blocks.specs.declared.scope.AccessorHeader.TheVariants as accessor_header
-use Rattle.vb_blocks.specs.declared.scope.LineClause.{LineClause}
 use Rattle.vb_blocks.specs.declared.scope.LineClause.TheVariants as line_clause
-use Rattle.vb_blocks.specs.declared.frame.Frame.{Frame}
 use Rattle.vb_blocks.specs.declared.frame.Frame.TheVariants as frame
-use Rattle.vb_blocks.specs.declared.frame.TypeHeader.{TypeHeader}
 use Rattle.vb_blocks.specs.declared.frame.TypeHeader.TheVariants as type_header
-use Rattle.vb_blocks.specs.declared.frame.Whole.{Whole}
 use Rattle.vb_blocks.specs.declared.frame.Whole.TheVariants as is
-use Rattle.vb_blocks.specs.declared.frame.Turn.{Turn}
 use Rattle.vb_blocks.specs.declared.frame.Turn.TheVariants as turn
-use Rattle.vb_blocks.specs.Trees.{row, whole, bare_member, AreSimple, IsStatement, AreStatements, AreElseIfs, AreCases, AreCatches, IsGet, IsSet, IsEventAccessor, AreEventAccessors, IsMember, AreMembers, IsBase, AreInterfaceLists, AreInterfaceMembers, IsType, AreTypes, AreOptions, AreImports}
-use Rattle.vb_blocks.specs.Steps.{body, is_line, opened, takes_get, takes_set, takes_accessor, member_opened}
-use Rattle.vb_tree.proofs.MemberRows.{parts, event_parts}
-use Rattle.vb_tree.proofs.FileRows.{class_parts, interface_parts, file_parts}
-use Rattle.vb_tree.proofs.Ends.{AreParted}
+use Rattle.vb_tree.proofs.{MemberRows.{parts, event_parts}, FileRows.{class_parts, interface_parts, file_parts}, Ends.AreParted}
 
 -- KINDS
 

@@ -1,39 +1,18 @@
 -- The rows of a statement lead from the statements before it to those with it.
 use Rattle.std.proofs.Common.{◌≡◌, ℕ, false, List, [], ◌∷◌, ◌++◌, Option, Some, None, refl, ap, sym, ◌∙◌, append_assoc, append-nil, subst}
-use Rattle.vb_syntax.specs.declared.expression.Expr.{Expr}
-use Rattle.vb_syntax.specs.declared.statement.CaseItem.{CaseItem}
-use Rattle.vb_syntax.specs.declared.statement.CatchVariable.{CatchVariable}
-use Rattle.vb_syntax.specs.declared.statement.StatementForm.{StatementForm}
+use Rattle.vb_syntax.specs.declared.{expression.Expr.Expr, statement.{CaseItem.CaseItem, CatchVariable.CatchVariable, StatementForm.StatementForm, Statement.Statement, ElseIfClause.ElseIfClause, CaseClause.CaseClause, CatchClause.CatchClause, BlockClause.BlockClause}, item.{Item.Item, Joint.Joint, Row.Row}}
 use Rattle.vb_syntax.specs.declared.statement.StatementForm.TheVariants as form
-use Rattle.vb_syntax.specs.declared.statement.Statement.{Statement}
-use Rattle.vb_syntax.specs.declared.statement.ElseIfClause.{ElseIfClause}
-use Rattle.vb_syntax.specs.declared.statement.CaseClause.{CaseClause}
-use Rattle.vb_syntax.specs.declared.statement.CatchClause.{CatchClause}
-use Rattle.vb_syntax.specs.declared.statement.BlockClause.{BlockClause}
-use Rattle.vb_syntax.specs.declared.item.Item.{Item}
 use Rattle.vb_syntax.specs.declared.item.Item.TheVariants as item
 use Rattle.vb_syntax.specs.declared.item.BlockWord.TheVariants as word
-use Rattle.vb_syntax.specs.declared.item.Joint.{Joint}
 use Rattle.vb_syntax.specs.declared.item.Joint.TheVariants as joint
-use Rattle.vb_syntax.specs.declared.item.Row.{Row}
-use Rattle.vb_blocks.specs.declared.scope.Scope.{Scope}
+use Rattle.vb_blocks.specs.{declared.{scope.{Scope.Scope, IfParts.IfParts, IfClause.IfClause, SelectParts.SelectParts, SelectClause.SelectClause, TryParts.TryParts, TryClause.TryClause, LineClause.LineClause}, frame.Frame.Frame}, Trees.{whole, statement, simple_form, enclosed, else_if, case, catch, IsSimple, alone, line_if, line_if_else, AreSimple, one, more, IsStatement, simple, block, if_block, select, try_block, AreStatements, no_statements, more_statements, AreElseIfs, no_else_ifs, more_else_ifs, AreCases, no_cases, more_cases, AreCatches, no_catches, more_catches, IsLastClause, no_clause, clause}, Steps.{State, step, put_below, body, is_line, opened, turned, statement_ends, line_ends, enclosed_whole}}
 use Rattle.vb_blocks.specs.declared.scope.Scope.TheVariants as scope
-use Rattle.vb_blocks.specs.declared.scope.IfParts.{IfParts}
-use Rattle.vb_blocks.specs.declared.scope.IfClause.{IfClause}
 use Rattle.vb_blocks.specs.declared.scope.IfClause.TheVariants as if_clause
-use Rattle.vb_blocks.specs.declared.scope.SelectParts.{SelectParts}
-use Rattle.vb_blocks.specs.declared.scope.SelectClause.{SelectClause}
 use Rattle.vb_blocks.specs.declared.scope.SelectClause.TheVariants as select_clause
-use Rattle.vb_blocks.specs.declared.scope.TryParts.{TryParts}
-use Rattle.vb_blocks.specs.declared.scope.TryClause.{TryClause}
 use Rattle.vb_blocks.specs.declared.scope.TryClause.TheVariants as try_clause
-use Rattle.vb_blocks.specs.declared.scope.LineClause.{LineClause}
 use Rattle.vb_blocks.specs.declared.scope.LineClause.TheVariants as line_clause
-use Rattle.vb_blocks.specs.declared.frame.Frame.{Frame}
 use Rattle.vb_blocks.specs.declared.frame.Frame.TheVariants as frame
 use Rattle.vb_blocks.specs.declared.frame.Whole.TheVariants as is
-use Rattle.vb_blocks.specs.Trees.{whole, statement, simple_form, enclosed, else_if, case, catch, IsSimple, alone, line_if, line_if_else, AreSimple, one, more, IsStatement, simple, block, if_block, select, try_block, AreStatements, no_statements, more_statements, AreElseIfs, no_else_ifs, more_else_ifs, AreCases, no_cases, more_cases, AreCatches, no_catches, more_catches, IsLastClause, no_clause, clause}
-use Rattle.vb_blocks.specs.Steps.{State, step, put_below, body, is_line, opened, turned, statement_ends, line_ends, enclosed_whole}
 use Rattle.vb_tree.proofs.Leads.{Leads, here, on, and_on, leads_to, step_simple, step_turns, step_opens}
 
 -- ON ONE LINE

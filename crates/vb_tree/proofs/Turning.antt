@@ -1,28 +1,15 @@
 -- What a row makes of a frame stands for the frame's rows and this row.
 use Rattle.std.proofs.Common.{◌≡◌, ℕ, List, [], ◌∷◌, ◌++◌, Option, Some, None, refl, ap, sym, ◌∙◌, append_assoc, append-nil, subst}
-use Rattle.vb_syntax.specs.declared.expression.Expr.{Expr}
-use Rattle.vb_syntax.specs.declared.statement.CaseItem.{CaseItem}
-use Rattle.vb_syntax.specs.declared.statement.CatchVariable.{CatchVariable}
+use Rattle.vb_syntax.specs.declared.{expression.Expr.Expr, statement.{CaseItem.CaseItem, CatchVariable.CatchVariable, Statement.Statement, BlockClause.BlockClause}, item.{Item.Item, Row.Row}}
 use Rattle.vb_syntax.specs.declared.statement.StatementForm.TheVariants as form
-use Rattle.vb_syntax.specs.declared.statement.Statement.{Statement}
-use Rattle.vb_syntax.specs.declared.statement.BlockClause.{BlockClause}
 use Rattle.vb_syntax.specs.declared.item.BlockWord.TheVariants as word
-use Rattle.vb_syntax.specs.declared.item.Item.{Item}
 use Rattle.vb_syntax.specs.declared.item.Item.TheVariants as item
-use Rattle.vb_syntax.specs.declared.item.Row.{Row}
 use Rattle.vb_blocks.specs.declared.scope.Scope.TheVariants as scope
-use Rattle.vb_blocks.specs.declared.scope.IfParts.{IfParts}
+use Rattle.vb_blocks.specs.declared.{scope.{IfParts.IfParts, IfClause.IfClause, SelectClause.SelectClause, TryClause.TryClause, SelectParts.SelectParts, TryParts.TryParts}, frame.{Frame.Frame, Turn.Turn}}
 use Rattle.vb_blocks.specs.declared.scope.IfClause.TheVariants as if_clause
-use Rattle.vb_blocks.specs.declared.scope.IfClause.{IfClause}
-use Rattle.vb_blocks.specs.declared.scope.SelectClause.{SelectClause}
-use Rattle.vb_blocks.specs.declared.scope.TryClause.{TryClause}
-use Rattle.vb_blocks.specs.declared.scope.SelectParts.{SelectParts}
 use Rattle.vb_blocks.specs.declared.scope.SelectClause.TheVariants as select_clause
-use Rattle.vb_blocks.specs.declared.scope.TryParts.{TryParts}
 use Rattle.vb_blocks.specs.declared.scope.TryClause.TheVariants as try_clause
-use Rattle.vb_blocks.specs.declared.frame.Frame.{Frame}
 use Rattle.vb_blocks.specs.declared.frame.Whole.TheVariants as is
-use Rattle.vb_blocks.specs.declared.frame.Turn.{Turn}
 use Rattle.vb_blocks.specs.declared.frame.Turn.TheVariants as turn
 use Rattle.vb_blocks.specs.Trees as tree
 use Rattle.vb_blocks.specs.Trees.{
@@ -61,8 +48,7 @@ use Rattle.vb_blocks.specs.Trees.{
   AreImports,
 }
 use Rattle.vb_blocks.specs.Steps.{body, if_next, if_end, if_turn, select_next, select_end, select_turn, try_next, try_end, try_turn, word_of}
-use Rattle.vb_tree.proofs.Standing.{a_statement, kind_of, IsIfParts, IsSelectParts, IsTryParts, IsFront, front_if, front_else_if, front_else, front_case, front_case_else, front_try, front_catch, front_finally, Stands, stands_body, Turned}
-use Rattle.vb_tree.proofs.Ends.{grouped, no_more, one_else_if, one_case, one_catch}
+use Rattle.vb_tree.proofs.{Standing.{a_statement, kind_of, IsIfParts, IsSelectParts, IsTryParts, IsFront, front_if, front_else_if, front_else, front_case, front_case_else, front_try, front_catch, front_finally, Stands, stands_body, Turned}, Ends.{grouped, no_more, one_else_if, one_case, one_catch}}
 
 -- IF
 

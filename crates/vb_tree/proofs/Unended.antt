@@ -1,22 +1,13 @@
 -- Where the rows of a file lead to its end and are no tree, a block is open behind them.
 use Rattle.std.proofs.Common.{◌≡◌, ℕ, true, List, [], ◌∷◌, reverse, Option, Some, None, refl, ap, ◌∙◌, subst}
 use Rattle.vb_syntax.specs.declared.item.Row.{Row}
-use Rattle.vb_ends.specs.declared.role.Sort.{Sort}
+use Rattle.vb_ends.specs.{declared.role.Sort.Sort, Roles.{marks_of, AreOpenBehind}}
 use Rattle.vb_ends.specs.declared.role.Sort.TheVariants as sort
-use Rattle.vb_ends.specs.Roles.{marks_of, AreOpenBehind}
-use Rattle.vb_blocks.specs.declared.frame.Frame.{Frame}
+use Rattle.vb_blocks.specs.{declared.{frame.{Frame.Frame, FileParts.FileParts}, scope.{Scope.Scope, AccessorHeader.AccessorHeader}}, Steps.{State, run, start, finished}}
 use Rattle.vb_blocks.specs.declared.frame.Frame.TheVariants as frame
-use Rattle.vb_blocks.specs.declared.scope.Scope.{Scope}
 use Rattle.vb_blocks.specs.declared.scope.Scope.TheVariants as scope
-use Rattle.vb_blocks.specs.declared.scope.AccessorHeader.{AccessorHeader}
 use Rattle.vb_blocks.specs.declared.scope.AccessorHeader.TheVariants as accessor_header
-use Rattle.vb_blocks.specs.declared.frame.FileParts.{FileParts}
-use Rattle.vb_blocks.specs.Steps.{State, run, start, finished}
-use Rattle.vb_tree.proofs.Standing.{Kind, a_type, a_file, kind_of, scope_kind, takes, Holds, bottom, inside}
-use Rattle.vb_tree.proofs.Holding.{scope_no_file}
-use Rattle.vb_tree.proofs.Building.{rows_hold}
-use Rattle.vb_tree.proofs.Sorts.{type_sort, frame_sort, grown, open_sorts}
-use Rattle.vb_tree.proofs.Linking.{rows_link}
+use Rattle.vb_tree.proofs.{Standing.{Kind, a_type, a_file, kind_of, scope_kind, takes, Holds, bottom, inside}, Holding.scope_no_file, Building.rows_hold, Sorts.{type_sort, frame_sort, grown, open_sorts}, Linking.rows_link}
 
 -- behind all rows, the blocks that are open are the frames that the rows lead to
 pub open_behind : (rows : List Row) (st : State) → run rows start [] ≡ Some st → AreOpenBehind (marks_of None (reverse rows)) (open_sorts (st.0 ∷ st.1))

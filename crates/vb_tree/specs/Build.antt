@@ -1,9 +1,8 @@
 -- The answer of the code, behind the last row or where it stopped.
 use Rattle.std.specs.Prelude.{ℕ, Bool, true, Result, Ok, Err}
 use Rattle.vb_syntax.specs.declared.declaration.SourceFile.{SourceFile}
-use Rattle.vb_blocks.specs.declared.fault.Fault.{Fault}
+use Rattle.vb_blocks.specs.declared.{fault.Fault.Fault, frame.Frame.Frame}
 use Rattle.vb_blocks.specs.declared.fault.Fault.TheVariants as fault
-use Rattle.vb_blocks.specs.declared.frame.Frame.{Frame}
 use Rattle.vb_blocks.specs.declared.frame.Frame.TheVariants as frame
 use Rattle.vb_tree.specs.declared.tree.BuildErr.{BuildErr}
 use Rattle.vb_tree.specs.declared.tree.BuildErr.TheVariants as error

@@ -1,13 +1,10 @@
 -- `If` on one line, step by step.
 use Rattle.std.specs.Prelude.{Bool, true, false, if◌then◌else◌, List, [], ◌∷◌, ◌++◌, Option, Some, None}
 use Rattle.vb_syntax.specs.declared.statement.Statement.{Statement}
-use Rattle.vb_blocks.specs.declared.scope.Scope.{Scope}
+use Rattle.vb_blocks.specs.{declared.{scope.{Scope.Scope, LineClause.LineClause}, frame.Frame.Frame}, Steps.{State, body, is_line, line_whole}}
 use Rattle.vb_blocks.specs.declared.scope.Scope.TheVariants as scope
-use Rattle.vb_blocks.specs.declared.scope.LineClause.{LineClause}
 use Rattle.vb_blocks.specs.declared.scope.LineClause.TheVariants as line_clause
-use Rattle.vb_blocks.specs.declared.frame.Frame.{Frame}
 use Rattle.vb_blocks.specs.declared.frame.Frame.TheVariants as frame
-use Rattle.vb_blocks.specs.Steps.{State, body, is_line, line_whole}
 
 abbrev pub in_line : Frame → Bool
 in_line (frame.Body (scope.Line c) ss) = true

@@ -7,10 +7,12 @@
 //! Assumed: nothing but memory.
 #![tactic(auto)]
 
+mod excluded;
 mod laws;
 mod lines;
 mod step;
 mod tree;
 
+pub use excluded::{tree_has_ends, tree_has_items, tree_is_placed};
 pub use laws::one_tree;
 pub use tree::{BuildErr, build};

@@ -4,11 +4,10 @@ ghost use Rattle.vb_blocks.specs.Steps.{Gives};
 ghost use Rattle.vb_blocks.specs.Steps as spec;
 ghost use Rattle.vb_tree.specs.Lines as lines;
 
-use sqlite_items::{Boxed, Items};
 use std::alloc::Global;
-use vb_blocks::{Fault, Frame, LineClause, Scope, Turn, begun, is_line, refuse};
+use vb_blocks::{Fault, Frame, LineClause, Scope, begun, is_line};
 use vb_members::with_statement;
-use vb_syntax::{Block, Joint, Statement, StatementForm};
+use vb_syntax::{Block, Boxed, Items, Joint, Statement, StatementForm};
 
 /// What stands behind a statement in its line, where these are the statements with it.
 pub fn statement_ends(
@@ -24,7 +23,10 @@ pub fn statement_ends(
         Joint::End => line_ends(scope, body, below),
         Joint::Else => else_begins(alloc, scope, body, below),
         Joint::Colon => line_goes_on(scope, body),
-        Joint::Then => Err(refuse(Turn::Goes(Frame::Body(scope, body)))),
+        Joint::Then => {
+            drop((scope, body));
+            Err(Fault::Grammar)
+        }
     }
 }
 
@@ -35,7 +37,8 @@ fn line_goes_on(scope: Scope, body: Block) -> Result<Frame, Fault>
     if is_line(&scope) {
         Ok(Frame::Body(scope, body))
     } else {
-        Err(refuse(Turn::Goes(Frame::Body(scope, body))))
+        drop((scope, body));
+        Err(Fault::Grammar)
     }
 }
 
@@ -95,7 +98,10 @@ fn else_clause(alloc: Global, frame: Frame) -> Result<Frame, Fault>
 {
     match frame {
         Frame::Body(scope, body) => else_scope(alloc, scope, body),
-        other => Err(refuse(Turn::Goes(other))),
+        other => {
+            drop(other);
+            Err(Fault::Grammar)
+        }
     }
 }
 
@@ -104,7 +110,10 @@ fn else_scope(alloc: Global, scope: Scope, body: Block) -> Result<Frame, Fault>
 {
     match scope {
         Scope::Line(clause) => else_frame(alloc, clause.into_inner(), body),
-        other => Err(refuse(Turn::Goes(Frame::Body(other, body)))),
+        other => {
+            drop((other, body));
+            Err(Fault::Grammar)
+        }
     }
 }
 
@@ -131,7 +140,10 @@ fn left(frame: Frame, below: &mut Items<Frame>) -> Result<Frame, Fault>
 {
     match frame {
         Frame::Body(scope, body) => left_scope(scope, body, below),
-        other => Err(refuse(Turn::Goes(other))),
+        other => {
+            drop(other);
+            Err(Fault::Grammar)
+        }
     }
 }
 
@@ -140,7 +152,10 @@ fn left_scope(scope: Scope, body: Block, below: &mut Items<Frame>) -> Result<Fra
 {
     match scope {
         Scope::Line(clause) => put_line(line_whole(clause.into_inner(), body), below),
-        other => Err(refuse(Turn::Goes(Frame::Body(other, body)))),
+        other => {
+            drop((other, body));
+            Err(Fault::Grammar)
+        }
     }
 }
 
@@ -181,6 +196,9 @@ fn among(statement: Statement, frame: Frame) -> Result<Frame, Fault>
 {
     match frame {
         Frame::Body(scope, body) => with_statement(scope, body, statement),
-        other => Err(refuse(Turn::Goes(other))),
+        other => {
+            drop(other);
+            Err(Fault::Grammar)
+        }
     }
 }

@@ -2,19 +2,16 @@
 ghost use Rattle.std.specs.Prelude.{◌≡◌, reverse, Some, None};
 ghost use Rattle.vb_blocks.specs.Steps.{Gives};
 ghost use Rattle.vb_blocks.specs.Steps as spec;
-ghost use Rattle.vb_ends.specs.Roles.{goes_on_property as goes_on};
 
 use crate::lines::{line_frame, statement_ends};
-use sqlite_items::{Boxed, Items};
 use std::alloc::Global;
 use vb_blocks::{
-    Fault, Frame, LineClause, PropertyParts, Scope, Turn, TypeHeader, Whole, opens, refuse,
-    refuse_in, simple,
+    Fault, Frame, LineClause, PropertyParts, Scope, Turn, TypeHeader, Whole, opens, simple,
 };
 use vb_members::{frame_turn, property_frame, put};
 use vb_syntax::{
-    Block, BlockWord, DeclarationLine, Item, Joint, Member, MemberForm, Modifier,
-    PropertyAccessors, PropertyHeader, Row, Statement, must_override,
+    Block, Boxed, Item, Items, Joint, Member, MemberForm, Modifier, PropertyAccessors,
+    PropertyHeader, Row, Statement, must_override,
 };
 
 /// The innermost frame behind a row, by that before it.
@@ -24,7 +21,10 @@ pub fn step(alloc: Global, top: Frame, below: &mut Items<Frame>, row: Row) -> Re
     let Row { line, item, behind } = row;
     match item {
         Some(item) => item_step(alloc, top, below, line, item, behind),
-        None => Err(refuse(Turn::Goes(top))),
+        None => {
+            drop(top);
+            Err(Fault::Grammar)
+        }
     }
 }
 
@@ -70,7 +70,10 @@ fn whole_step(
 {
     match behind {
         Joint::End => turned(alloc, frame_turn(alloc, top, line, item)?, below),
-        _ => Err(refuse_in(top, item)),
+        _ => {
+            drop((top, item));
+            Err(Fault::Grammar)
+        }
     }
 }
 
@@ -110,7 +113,10 @@ fn no_statement(
     match behind {
         Joint::End => turned(alloc, frame_turn(alloc, top, line, item)?, below),
         Joint::Then => line_if(alloc, top, below, line, item),
-        _ => Err(refuse_in(top, item)),
+        _ => {
+            drop((top, item));
+            Err(Fault::Grammar)
+        }
     }
 }
 
@@ -128,7 +134,10 @@ fn line_if(
             let inner = line_frame(alloc, LineClause::Then(line, test));
             turned(alloc, opens(top, inner)?, below)
         }
-        other => Err(refuse_in(top, other)),
+        other => {
+            drop((top, other));
+            Err(Fault::Grammar)
+        }
     }
 }
 
@@ -156,7 +165,10 @@ fn put_below(alloc: Global, whole: Whole, below: &mut Items<Frame>) -> Result<Fr
 {
     match below.pop() {
         Some(frame) => put(alloc, whole, frame),
-        None => Err(refuse(Turn::Closes(whole))),
+        None => {
+            drop(whole);
+            Err(Fault::Grammar)
+        }
     }
 }
 
@@ -171,21 +183,11 @@ fn reopened(
 ) -> Result<Frame, Fault>
     ensures { Gives (λ f. (f, reverse below.new)) result (spec.reopened item.now top (reverse below.old)) }
 {
-    if goes_on_property(item) {
+    if item.goes_on_property() {
         reopened_top(alloc, top, below)
     } else {
         Ok(top)
     }
-}
-
-fn goes_on_property(item: &Item) -> bool
-    ensures { result ≡ goes_on (Some item.now) }
-{
-    matches!(
-        item,
-        Item::Declares(DeclarationLine::Get(_) | DeclarationLine::Set(_, _))
-            | Item::End(BlockWord::Property)
-    )
 }
 
 fn reopened_top(alloc: Global, top: Frame, below: &mut Items<Frame>) -> Result<Frame, Fault>
@@ -230,7 +232,10 @@ fn reopened_as(
             let turn = opens(top, property_frame(alloc, parts))?;
             turned(alloc, turn, below)
         }
-        None => Err(refuse(Turn::Goes(top))),
+        None => {
+            drop(top);
+            Err(Fault::Grammar)
+        }
     }
 }
 

@@ -8,10 +8,9 @@ ghost use Rattle.vb_blocks.specs.Steps as spec;
 ghost use Rattle.vb_tree.specs.Build as answers;
 
 use crate::step::step;
-use sqlite_items::{Boxed, Items};
 use std::alloc::{AllocError, Global};
 use vb_blocks::{Fault, FileParts, Frame};
-use vb_syntax::{Row, SourceFile};
+use vb_syntax::{Boxed, Items, Row, SourceFile};
 
 /// Why the rows of a file are no tree.
 #[derive(Clone, Copy, Debug, PartialEq, Eq)]

@@ -2,8 +2,7 @@ use Rattle.std.proofs.Common.{◌≡◌, reverse, Some, Result, Err}
 use Rattle.vb_blocks.specs.declared.frame.Frame.{Frame}
 use Rattle.vb_tree.specs.declared.tree.BuildErr.{BuildErr}
 use Rattle.vb_tree.specs.declared.tree.BuildErr.TheVariants as error
-use Rattle.vb_tree.proofs.Placed.{one_misplaced}
-use Rattle.vb_tree.proofs.Finishing.{tree_is, tree_placed, none_misplaced, no_tree_is, block_is_open, led_by, misplaced_by}
+use Rattle.vb_tree.proofs.{Placed.one_misplaced, Finishing.{tree_is, tree_placed, none_misplaced, no_tree_is, block_is_open, led_by, misplaced_by}}
 use Rattle.vb_tree.proofs.tree.build.Goals as goal
 
 pub returns-in-Ok-stand-clause-tree : goal.returns-in-Ok-stand-clause-tree

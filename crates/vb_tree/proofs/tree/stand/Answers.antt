@@ -1,9 +1,7 @@
 use Rattle.std.proofs.Common.{ℕ, List, reverse, subst}
 use Rattle.vb_syntax.specs.declared.item.Row.{Row}
-use Rattle.vb_blocks.specs.Trees.{IsMisplaced}
-use Rattle.vb_blocks.specs.Steps.{step}
-use Rattle.vb_tree.proofs.Reaching.{Reaches, reaches_more, reaches_misplaced}
-use Rattle.vb_tree.proofs.Finishing.{stopped_there}
+use Rattle.vb_blocks.specs.{Trees.IsMisplaced, Steps.step}
+use Rattle.vb_tree.proofs.{Reaching.{Reaches, reaches_more, reaches_misplaced}, Finishing.stopped_there}
 use Rattle.vb_tree.proofs.tree.stand.Goals as goal
 
 pub loop-row-preserved : goal.loop-row-preserved
