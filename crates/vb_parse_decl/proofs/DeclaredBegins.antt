@@ -3,7 +3,7 @@ use Rattle.std.proofs.Common.{◌≡◌, ◌⊎◌, inl, inr, ℕ, Bool, true, f
 use Rattle.std.specs.Option.{is_some}
 use Rattle.std.proofs.lemmas.List.{take-append-drop}
 use Rattle.vb_text.specs.declared.names.Name.{Name}
-use Rattle.vb_syntax.specs.declared.{keyword.Keyword.Keyword, tokens.Token.Token, types.{SimpleTypeName.SimpleTypeName, TypeName.TypeName}, expression.Expr.{Expr, ObjectCreation'}}
+use Rattle.vb_syntax.specs.{declared.{keyword.Keyword.Keyword, tokens.Token.Token, types.{SimpleTypeName.SimpleTypeName, TypeName.TypeName}, expression.Expr.{Expr, ObjectCreation'}}, Literals.integer}
 use Rattle.vb_syntax.specs.declared.keyword.Keyword.TheVariants as word
 use Rattle.vb_syntax.specs.declared.symbol.Symbol.TheVariants as sign
 use Rattle.vb_syntax.specs.declared.tokens.Token.TheVariants as token
@@ -98,7 +98,7 @@ created_word w x is p = absurd cc
 
 created_alone : (t : Token) (x : Expr) → alone_of t ≡ Some x → is_creation x ≡ true → ⊥
 unfolding is_creation
-created_alone (token.Integer l) x is p = let made : (e.Integer l) ≡ x = cc in let same : is_creation (e.Integer l) ≡ true = ap is_creation made ∙ p in absurd cc
+created_alone (token.Integer l) x is p = let made : e.Integer (integer l) ≡ x = cc in let same : is_creation (e.Integer (integer l)) ≡ true = ap is_creation made ∙ p in absurd cc
 created_alone (token.Text l) x is p = let made : (e.Text l) ≡ x = cc in let same : is_creation (e.Text l) ≡ true = ap is_creation made ∙ p in absurd cc
 created_alone (token.Char l) x is p = let made : (e.Char l) ≡ x = cc in let same : is_creation (e.Char l) ≡ true = ap is_creation made ∙ p in absurd cc
 created_alone (token.Keyword w) x is p = created_word w x is p

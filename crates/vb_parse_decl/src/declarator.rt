@@ -9,15 +9,14 @@ ghost use Rattle.vb_parse_decl.specs.DeclaredReading as spec;
 ghost use Rattle.vb_parse_decl.specs.DeclaredReading.{IsPartAt, IsModifier, IsTyped, anything, ends_identifier, is_as, is_closing, is_over};
 ghost use Rattle.vb_parse_decl.specs.Parts.{AreListed, IsExpression};
 
-use sqlite_items::Items;
 use std::alloc::Global;
 use vb_parse_expr::{
     ParseErr, one_reading, parse_expr, parse_initializer, parse_primary, parse_type,
     primary_begins, refusal,
 };
 use vb_syntax::{
-    Declarator, Expr, Keyword, Line, SimpleTypeName, Symbol, Token, TypeName, VariableIdentifier,
-    VariableInitializer, VariableModifier,
+    Declarator, Expr, Items, Keyword, Line, SimpleTypeName, Symbol, Token, TypeName,
+    VariableIdentifier, VariableInitializer, VariableModifier,
 };
 use vb_text::Name;
 

@@ -8,11 +8,10 @@ use crate::lists::read_list;
 use crate::modifiers::only_access;
 use crate::parameters::{read_result, read_signature};
 use crate::type_parameters::read_type_parameters;
-use sqlite_items::Items;
 use std::alloc::Global;
 use vb_parse_expr::{Fault, read_name};
 use vb_syntax::{
-    ClassModifier, DeclarationLine, DelegateKind, Keyword, MethodSignature, Modifier, Token,
+    ClassModifier, DeclarationLine, DelegateKind, Items, Keyword, MethodSignature, Modifier, Token,
     TypeName,
 };
 

@@ -6,10 +6,9 @@ ghost use Rattle.vb_parse_decl.specs.MemberReading.{last_name, member_of as memb
 
 use crate::ahead::after_implements;
 use crate::lists::{Listed, read_list};
-use sqlite_items::Items;
 use std::alloc::Global;
 use vb_parse_expr::{Fault, after_dot, read_name, read_type};
-use vb_syntax::{ImplementedMember, QualifiedTypeName, SimpleTypeName, Token, TypeName};
+use vb_syntax::{ImplementedMember, Items, QualifiedTypeName, SimpleTypeName, Token, TypeName};
 use vb_text::Name;
 
 impl Listed for ImplementedMember {

@@ -19,12 +19,11 @@ use crate::members::{
     read_set, sub_behind, write_only_behind,
 };
 use crate::modifiers::read_modifiers;
-use sqlite_items::Items;
 use std::alloc::Global;
 use vb_parse_expr::{Fault, ParseErr, one_reading, primary_begins, refusal};
 use vb_syntax::{
     ClassModifier, ContextualWords, DeclarationLine, Declarator, EventAccessorKind, FunctionKind,
-    Keyword, Line, Modifier, Token,
+    Items, Keyword, Line, Modifier, Token,
 };
 use vb_text::Name;
 

@@ -4,10 +4,9 @@ ghost use Rattle.vb_syntax.specs.declared.tokens.Token.{Token as OneToken};
 ghost use Rattle.vb_parse_expr.specs.TypeReading.{Gives, Read};
 ghost use Rattle.vb_parse_decl.specs.DeclarationReading as spec;
 
-use sqlite_items::Items;
 use std::alloc::Global;
 use vb_parse_expr::{Fault, after_comma};
-use vb_syntax::Token;
+use vb_syntax::{Items, Token};
 
 /// A part of declarations of which several may stand one behind the other, with commas between them.
 pub trait Listed: Drop {

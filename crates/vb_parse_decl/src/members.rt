@@ -9,11 +9,10 @@ use crate::modifiers::{only_access, property_split};
 use crate::parameters::{
     name_modifier, read_declared, read_parameters, read_signature, read_written,
 };
-use sqlite_items::Items;
 use std::alloc::Global;
 use vb_parse_expr::{Fault, after_opening, read_expression, read_name};
 use vb_syntax::{
-    DeclarationLine, EventAccessorKind, EventHandler, Expr, FunctionKind, Keyword, Modifier,
+    DeclarationLine, EventAccessorKind, EventHandler, Expr, FunctionKind, Items, Keyword, Modifier,
     PropertyHeader, PropertyKind, Token,
 };
 

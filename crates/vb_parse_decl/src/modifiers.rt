@@ -3,10 +3,9 @@ ghost use Rattle.std.specs.Prelude.{◌≡◌, IfOk, [], option_map};
 ghost use Rattle.vb_parse_expr.specs.TypeReading.{Gives};
 ghost use Rattle.vb_parse_decl.specs.ModifierReading as spec;
 
-use sqlite_items::Items;
 use std::alloc::{AllocError, Global};
 use vb_parse_expr::Fault;
-use vb_syntax::{Access, Keyword, Modifier, PropertyKind, Token};
+use vb_syntax::{Access, Items, Keyword, Modifier, PropertyKind, Token};
 
 /// The modifiers at the front of tokens, as many as there are, and the tokens behind them.
 #[tactic(auto, unfolding(crate::specs::ModifierReading::read_modifiers, crate::specs::ModifierReading::modifiers_from))]

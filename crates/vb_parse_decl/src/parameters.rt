@@ -6,10 +6,11 @@ ghost use Rattle.vb_parse_decl.specs.DeclarationReading as spec;
 use crate::ahead::after_as;
 use crate::lists::{Listed, read_list};
 use crate::type_parameters::read_type_parameters;
-use sqlite_items::Items;
 use std::alloc::Global;
 use vb_parse_expr::{Fault, after_closing, after_opening, read_name, read_type};
-use vb_syntax::{Keyword, MethodSignature, NameModifier, Parameter, PassedBy, Token, TypeName};
+use vb_syntax::{
+    Items, Keyword, MethodSignature, NameModifier, Parameter, PassedBy, Token, TypeName,
+};
 
 impl Listed for Parameter {
     ghost reading = { spec.read_parameter };

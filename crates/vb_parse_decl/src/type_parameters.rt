@@ -5,13 +5,12 @@ ghost use Rattle.vb_parse_decl.specs.DeclarationReading as spec;
 
 use crate::ahead::after_as;
 use crate::lists::{Listed, read_list};
-use sqlite_items::Items;
 use std::alloc::Global;
 use vb_parse_expr::{
     Fault, after_closing, after_closing_brace, after_opening_brace, after_opening_of, read_name,
     read_type,
 };
-use vb_syntax::{Keyword, Token, TypeConstraint, TypeName, TypeParameter};
+use vb_syntax::{Items, Keyword, Token, TypeConstraint, TypeName, TypeParameter};
 
 impl Listed for TypeName {
     ghost reading = { type_read };

@@ -1,7 +1,13 @@
 -- A turn of the reading of a type.
-use Rattle.std.proofs.Common.{◌≡◌, ℕ, suc, List, Option, Some, None, Result, Ok, Err, ap, ◌∙◌}
+use Rattle.std.proofs.Common.{◌≡◌, ℕ, suc, List, Option, Some, None, Result, Ok, Err, refl, ap, ◌∙◌}
 use Rattle.vb_syntax.specs.declared.{tokens.Token.Token, types.SimpleTypeName.SimpleTypeName}
 use Rattle.vb_parse_expr.specs.{declared.{fault.Fault.{Fault, TheVariants.{Memory, Grammar}}, types.{OpenName.OpenName, TypeState.TypeState}}, TypeReading.{Fails, run_types, type_step, step_ends, turn_ends, finished}}
+use Rattle.vb_parse_expr.specs.declared.types.TypeState.TheVariants as at
+
+pub unfinished : (s : TypeState) → ((x : SimpleTypeName) → s ≡ at.Done x → ⊥) → finished s ≡ Err s
+unfinished at.Want on = refl
+unfinished (at.Have x) on = refl
+unfinished (at.Done x) on = absurd (on x refl)
 
 pub turn_on : (n : ℕ) (ws : List OpenName) (s : TypeState) (ts : List Token) (p : List OpenName × TypeState × List Token) (t : TypeState)
     → type_step ws s ts ≡ Some p → finished p.1 ≡ Err t → run_types (suc n) ws s ts ≡ run_types n p.0 t p.2

@@ -1,7 +1,7 @@
 -- Where an operand is to come.
 use Rattle.std.proofs.Common.{◌≡◌, ℕ, cond, Bool, true, false, List, [], ◌∷◌, ◌++◌, Option, Some, None, refl, ap, subst, ◌∙◌}
 use Rattle.vb_text.specs.declared.names.Name.{Name}
-use Rattle.vb_syntax.specs.declared.{keyword.Keyword.Keyword, symbol.Symbol.Symbol, tokens.Token.Token, types.{BuiltInTypeName.BuiltInTypeName, PrimitiveTypeName.PrimitiveTypeName, TypeName.TypeName}, expression.{UnaryOperator.UnaryOperator, CastOperator.CastOperator, Expr.Expr}}
+use Rattle.vb_syntax.specs.{declared.{keyword.Keyword.Keyword, symbol.Symbol.Symbol, tokens.Token.Token, types.{BuiltInTypeName.BuiltInTypeName, PrimitiveTypeName.PrimitiveTypeName, TypeName.TypeName}, expression.{UnaryOperator.UnaryOperator, CastOperator.CastOperator, Expr.Expr}}, Literals.integer}
 use Rattle.vb_syntax.specs.declared.keyword.Keyword.TheVariants as word
 use Rattle.vb_syntax.specs.declared.symbol.Symbol.TheVariants as sign
 use Rattle.vb_syntax.specs.declared.tokens.Token.TheVariants as token
@@ -111,7 +111,7 @@ module _ (goal : Goal) (all : List Token) where
   unfolding machine.begin
   begin_keeps ws (token.Name n) ts w = named_keeps ws (token.Name n) ts n w refl
   begin_keeps ws (token.EscapedName n) ts w = named_keeps ws (token.EscapedName n) ts n w refl
-  begin_keeps ws (token.Integer l) ts w = alone_keeps ws (token.Integer l) ts (e.Integer l) w refl
+  begin_keeps ws (token.Integer l) ts w = alone_keeps ws (token.Integer l) ts (e.Integer (integer l)) w refl
   begin_keeps ws (token.Text t) ts w = alone_keeps ws (token.Text t) ts (e.Text t) w refl
   begin_keeps ws (token.Char u) ts w = alone_keeps ws (token.Char u) ts (e.Char u) w refl
   begin_keeps ws (token.Symbol s) ts w = begin_sign_keeps ws s ts w

@@ -6,7 +6,7 @@ use Rattle.vb_syntax.specs.declared.{tokens.{Token.Token, Line.Line}, expression
 use Rattle.vb_syntax.specs.declared.tokens.Token.TheVariants as token
 use Rattle.vb_syntax.specs.declared.expression.VariableInitializer.TheVariants as init
 use Rattle.vb_diag.specs.declared.refusal.Refusal.{Refusal}
-use Rattle.vb_parse_expr.specs.{declared.error.ParseErr.{ParseErr, TheVariants.{Refused, Memory}}, Words.{name_of, type_of, alone_of, primitive_cast, cast_operator, operator_of, has_unused}, Expressions.{Edge, Spells, SpellsPrimary, SpellsArguments, SpellsInitializer}}
+use Rattle.vb_parse_expr.specs.{declared.error.ParseErr.{ParseErr, TheVariants.{Refused, Memory}}, Words.{name_of, type_of, alone_of, primitive_cast, cast_operator, operator_of, has_unused}, Expressions.{Edge, Spells, SpellsPrimary, SpellsInitializer}}
 
 -- AS MANY TOKENS AS CAN BE
 
@@ -52,11 +52,6 @@ pub record IsPrimaryFront (ts : List Token) (x : Expr) (n : ℕ) : Type 0 where
   pub edge : Edge
   pub spells : SpellsPrimary edge (take n ts) x
   pub over : goes_on_primary (drop n ts) ≡ false
-
--- arguments in their parentheses, behind which nothing goes on with them
-pub record IsArgumentsFront (ts : List Token) (xs : List Expr) (n : ℕ) : Type 0 where
-  pub within : n ≤ length ts
-  pub spells : SpellsArguments (take n ts) xs
 
 -- nothing goes on with braces
 abbrev pub goes_on_initializer : VariableInitializer → List Token → Bool

@@ -1,13 +1,13 @@
 -- How an expression is read: private steps on lists, which the code equals.
 use Rattle.std.specs.Prelude.{◌≡◌, ℕ, zero, suc, Bool, true, false, List, [], ◌∷◌, ◌++◌, length, Option, Some, None, if◌then◌else◌, Result, Ok, Err, nat_lt}
 use Rattle.vb_text.specs.declared.names.Name.{Name}
-use Rattle.vb_syntax.specs.declared.{keyword.Keyword.Keyword, symbol.Symbol.Symbol, tokens.Token.Token, types.{BuiltInTypeName.BuiltInTypeName, PrimitiveTypeName.PrimitiveTypeName, SimpleTypeName.SimpleTypeName}, expression.{UnaryOperator.UnaryOperator, BinaryOperator.BinaryOperator, CastOperator.CastOperator, Expr.Expr, VariableInitializer.VariableInitializer}}
+use Rattle.vb_syntax.specs.{declared.{keyword.Keyword.Keyword, symbol.Symbol.Symbol, tokens.Token.Token, types.{BuiltInTypeName.BuiltInTypeName, PrimitiveTypeName.PrimitiveTypeName, SimpleTypeName.SimpleTypeName}, expression.{UnaryOperator.UnaryOperator, BinaryOperator.BinaryOperator, CastOperator.CastOperator, Expr.Expr, VariableInitializer.VariableInitializer}}, Literals.integer}
 use Rattle.vb_syntax.specs.declared.keyword.Keyword.TheVariants as word
 use Rattle.vb_syntax.specs.declared.symbol.Symbol.TheVariants as sign
 use Rattle.vb_syntax.specs.declared.tokens.Token.TheVariants as token
 use Rattle.vb_syntax.specs.declared.expression.Expr.TheVariants as e
 use Rattle.vb_syntax.specs.declared.expression.VariableInitializer.TheVariants as init
-use Rattle.vb_parse_expr.specs.{declared.{pending.{Pending.Pending, Goal.Goal}, fault.Fault.{Fault, TheVariants.Memory}, machine.State.State}, Words.{type_of, primitive_cast, cast_operator, prefix_of, operator_of}, Reading.{after_opening, after_closing, after_opening_brace, after_closing_brace, after_comma, after_dot, after_is}, TypeReading.{Read, and_then, behind, popped, read_name, read_type_arguments, read_simple_type, read_type}}
+use Rattle.vb_parse_expr.specs.{declared.{pending.{Pending.Pending, Goal.Goal}, fault.Fault.{Fault, TheVariants.Memory}, machine.State.State, operators.Settlement.{Settlement, TheVariants.{Whole, Waits}}}, Words.{type_of, primitive_cast, cast_operator, prefix_of, operator_of}, Reading.{after_opening, after_closing, after_opening_brace, after_closing_brace, after_comma, after_dot, after_is}, TypeReading.{Read, and_then, behind, popped, read_name, read_type_arguments, read_simple_type, read_type}}
 use Rattle.vb_parse_expr.specs.declared.pending.Pending.TheVariants as wait
 use Rattle.vb_parse_expr.specs.declared.pending.Goal.TheVariants as for
 use Rattle.vb_parse_expr.specs.declared.machine.State.TheVariants as at
@@ -118,7 +118,7 @@ named ws n ts = and_then (read_type_arguments ts) (λ args rest. Some (ws, at.Pr
 unfoldable pub begin : List Pending → Token → List Token → Step
 begin ws (token.Name n) ts = named ws n ts
 begin ws (token.EscapedName n) ts = named ws n ts
-begin ws (token.Integer l) ts = Some (ws, at.Primary (e.Integer l), ts)
+begin ws (token.Integer l) ts = Some (ws, at.Primary (e.Integer (integer l)), ts)
 begin ws (token.Text t) ts = Some (ws, at.Primary (e.Text t), ts)
 begin ws (token.Char u) ts = Some (ws, at.Primary (e.Char u), ts)
 begin ws (token.Symbol s) ts = begin_sign ws s ts
@@ -154,10 +154,10 @@ module _ (s : ℕ) where
   settled_at go all x p = (all, x)
 
   -- one operator took its operand, or it waits on with what there is
-  abbrev pub Settles : Pending → Expr → Result (Result Expr (Pending × Expr)) Fault → Type 0
-  Settles p x (Ok (Ok y)) = (go : List Pending → Expr → List Pending × Expr) (all ws : List Pending) → settled_at go all x (Some (ws, p)) ≡ go ws y
-  Settles p x (Ok (Err kept)) =
-      (kept ≡ (p, x)) × ((go : List Pending → Expr → List Pending × Expr) (all ws : List Pending) → settled_at go all x (Some (ws, p)) ≡ (all, x))
+  abbrev pub Settles : Pending → Expr → Result Settlement Fault → Type 0
+  Settles p x (Ok (Whole y)) = (go : List Pending → Expr → List Pending × Expr) (all ws : List Pending) → settled_at go all x (Some (ws, p)) ≡ go ws y
+  Settles p x (Ok (Waits q y)) =
+      (q ≡ p) × (y ≡ x) × ((go : List Pending → Expr → List Pending × Expr) (all ws : List Pending) → settled_at go all x (Some (ws, p)) ≡ (all, x))
   Settles p x (Err f) = f ≡ Memory
 
   unfoldable pub settled : ℕ → List Pending → Expr → List Pending × Expr

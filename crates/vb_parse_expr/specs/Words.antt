@@ -1,7 +1,7 @@
 -- What a single token means in an expression.
 use Rattle.std.specs.Prelude.{ℕ, Bool, true, false, ◌||◌, List, [], ◌∷◌, Option, Some, None}
 use Rattle.vb_text.specs.declared.names.Name.{Name}
-use Rattle.vb_syntax.specs.declared.{keyword.Keyword.Keyword, symbol.Symbol.Symbol, tokens.Token.Token, types.{PrimitiveTypeName.PrimitiveTypeName, BuiltInTypeName.BuiltInTypeName}, expression.{UnaryOperator.UnaryOperator, BinaryOperator.BinaryOperator, CastOperator.CastOperator, Expr.Expr}}
+use Rattle.vb_syntax.specs.{declared.{keyword.Keyword.Keyword, symbol.Symbol.Symbol, tokens.Token.Token, types.{PrimitiveTypeName.PrimitiveTypeName, BuiltInTypeName.BuiltInTypeName}, expression.{UnaryOperator.UnaryOperator, BinaryOperator.BinaryOperator, CastOperator.CastOperator, Expr.Expr}}, Literals.integer}
 use Rattle.vb_syntax.specs.declared.keyword.Keyword.TheVariants as word
 use Rattle.vb_syntax.specs.declared.symbol.Symbol.TheVariants as sign
 use Rattle.vb_syntax.specs.declared.tokens.Token.TheVariants as token
@@ -71,7 +71,7 @@ word_alone word.MyBase = Some expr.MyBase
 word_alone _ = None
 
 abbrev pub alone_of : Token → Option Expr
-alone_of (token.Integer l) = Some (expr.Integer l)
+alone_of (token.Integer l) = Some (expr.Integer (integer l))
 alone_of (token.Text t) = Some (expr.Text t)
 alone_of (token.Char u) = Some (expr.Char u)
 alone_of (token.Keyword w) = word_alone w

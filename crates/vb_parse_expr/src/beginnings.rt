@@ -13,9 +13,8 @@ use crate::machine::State;
 use crate::pending::{Goal, Pending};
 use crate::types::{read_name, read_simple_type, read_type_arguments};
 use crate::words::{cast_operator, prefix_of, primitive_cast, type_of};
-use sqlite_items::{Boxed, Items};
 use std::alloc::Global;
-use vb_syntax::{Expr, Keyword, SimpleTypeName, Symbol, Token};
+use vb_syntax::{Boxed, Expr, Items, Keyword, SimpleTypeName, Symbol, Token};
 
 #[tactic(auto, unfolding(crate::specs::MachineReading::want))]
 pub fn want<'a>(
@@ -112,7 +111,7 @@ fn begin<'a>(
             let (arguments, rest) = read_type_arguments(alloc, rest)?;
             Ok((State::Primary(Expr::SimpleName(*name, arguments)), rest))
         }
-        Token::Integer(literal) => Ok((State::Primary(Expr::Integer(*literal)), rest)),
+        Token::Integer(literal) => Ok((State::Primary(Expr::Integer(literal.integer())), rest)),
         Token::Text(text) => Ok((State::Primary(Expr::Text(text.copy(alloc)?)), rest)),
         Token::Char(unit) => Ok((State::Primary(Expr::Char(*unit)), rest)),
         Token::Symbol(sign) => begin_sign(*sign, rest, waiting),

@@ -13,10 +13,9 @@ use crate::fault::Fault;
 use crate::machine::State;
 use crate::pending::Pending;
 use crate::types::read_type;
-use sqlite_items::{Boxed, Items};
 use std::alloc::Global;
 use vb_syntax::{
-    CastOperator, Expr, PrimitiveTypeName, SimpleTypeName, Token, VariableInitializer,
+    Boxed, CastOperator, Expr, Items, PrimitiveTypeName, SimpleTypeName, Token, VariableInitializer,
 };
 
 // BEHIND AN EXPRESSION

@@ -9,9 +9,8 @@ use crate::closings::braces;
 use crate::fault::Fault;
 use crate::operators::primary;
 use crate::pending::{Goal, Pending};
-use sqlite_items::Items;
 use std::alloc::Global;
-use vb_syntax::{Expr, Token, VariableInitializer};
+use vb_syntax::{Expr, Items, Token, VariableInitializer};
 
 /// Where the reading is.
 #[derive(Drop)]
@@ -40,27 +39,15 @@ pub fn run(
     let mut rest = tokens;
     for _turn in 0..u128::MAX {
         let (next, after) = step(alloc, goal, state, rest, &mut waiting)?;
-        match finished(next) {
-            Ok(found) => return Ok((found, after)),
-            Err(next) => {
+        match next {
+            State::Done(found) => return Ok((found, after)),
+            next => {
                 state = next;
                 rest = after;
             }
         }
     }
     Err(Fault::Grammar)
-}
-
-// What has been read, or the state before that.
-fn finished(state: State) -> Result<VariableInitializer, State>
-    ensures { result ≡ spec.finished state }
-{
-    match state {
-        State::Done(found) => Ok(found),
-        State::Want => Err(State::Want),
-        State::Primary(found) => Err(State::Primary(found)),
-        State::Braces(found) => Err(State::Braces(found)),
-    }
 }
 
 #[tactic(auto, unfolding(crate::specs::MachineReading::step))]

@@ -10,9 +10,8 @@ use crate::machine::State;
 use crate::pending::{Goal, Pending};
 use crate::types::{read_name, read_type, read_type_arguments};
 use crate::words::operator_of;
-use sqlite_items::{Boxed, Items};
 use std::alloc::Global;
-use vb_syntax::{BinaryOperator, Expr, Token, VariableInitializer};
+use vb_syntax::{BinaryOperator, Boxed, Expr, Items, Token, VariableInitializer};
 
 #[tactic(auto, unfolding(crate::specs::MachineReading::primary))]
 pub fn primary<'a>(
@@ -137,8 +136,8 @@ fn settled(
             return Ok(operand);
         };
         match settle(alloc, strength, pending, operand)? {
-            Ok(whole) => operand = whole,
-            Err((pending, operand)) => {
+            Settlement::Whole(whole) => operand = whole,
+            Settlement::Waits(pending, operand) => {
                 waiting.push(pending)?;
                 return Ok(operand);
             }
@@ -147,24 +146,28 @@ fn settled(
     Ok(operand)
 }
 
-// An operator with its operand, or both as they are where an operator of this strength doesn't end it.
-fn settle(
-    alloc: Global,
-    strength: u8,
-    pending: Pending,
-    operand: Expr,
-) -> Result<Result<Expr, (Pending, Expr)>, Fault>
+/// What becomes of an operator and the operand behind it.
+#[derive(Drop)]
+pub enum Settlement {
+    /// The operator took the operand.
+    Whole(Expr),
+    /// The operator waits on, since the operand isn't ended.
+    Waits(Pending, Expr),
+}
+
+// An operator takes its operand where an operator of this strength ends it.
+fn settle(alloc: Global, strength: u8, pending: Pending, operand: Expr) -> Result<Settlement, Fault>
     ensures { spec.Settles strength pending operand result }
 {
     match pending {
         Pending::Before(operator, own) if own < strength => {
-            Ok(Ok(Expr::Unary(operator, Boxed::new(alloc, operand)?)))
+            let operand = Boxed::new(alloc, operand)?;
+            Ok(Settlement::Whole(Expr::Unary(operator, operand)))
         }
-        Pending::Between(left, operator, own) if own <= strength => Ok(Ok(Expr::Binary(
-            operator,
-            left,
-            Boxed::new(alloc, operand)?,
-        ))),
-        pending => Ok(Err((pending, operand))),
+        Pending::Between(left, operator, own) if own <= strength => {
+            let right = Boxed::new(alloc, operand)?;
+            Ok(Settlement::Whole(Expr::Binary(operator, left, right)))
+        }
+        pending => Ok(Settlement::Waits(pending, operand)),
     }
 }

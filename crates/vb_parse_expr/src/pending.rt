@@ -1,9 +1,8 @@
 // What has been begun and waits for the expression that is being read.
 
-use sqlite_items::{Boxed, Items};
 use vb_syntax::{
-    BinaryOperator, CastOperator, Expr, PrimitiveTypeName, SimpleTypeName, UnaryOperator,
-    VariableInitializer,
+    BinaryOperator, Boxed, CastOperator, Expr, Items, PrimitiveTypeName, SimpleTypeName,
+    UnaryOperator, VariableInitializer,
 };
 
 /// What has been begun, the outer before the inner.

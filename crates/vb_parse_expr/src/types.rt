@@ -8,9 +8,8 @@ ghost use Rattle.vb_parse_expr.specs.TypeReading.{Gives};
 use crate::ahead::{after_closing, after_comma, after_dot, after_of, after_opening};
 use crate::fault::Fault;
 use crate::words::{name_of, type_of};
-use sqlite_items::Items;
 use std::alloc::Global;
-use vb_syntax::{QualifiedTypeName, SimpleTypeName, Token, TypeName};
+use vb_syntax::{Items, QualifiedTypeName, SimpleTypeName, Token, TypeName};
 use vb_text::Name;
 
 /// A name whose type arguments are being read.
@@ -132,26 +131,15 @@ fn run_types(
     let mut rest = tokens;
     for _turn in 0..u128::MAX {
         let (next, after) = type_step(alloc, state, rest, &mut waiting)?;
-        match finished(next) {
-            Ok(name) => return Ok((name, after)),
-            Err(next) => {
+        match next {
+            TypeState::Done(name) => return Ok((name, after)),
+            next => {
                 state = next;
                 rest = after;
             }
         }
     }
     Err(Fault::Grammar)
-}
-
-// The type that is wanted, or the state before it.
-fn finished(state: TypeState) -> Result<SimpleTypeName, TypeState>
-    ensures { result ≡ spec.finished state }
-{
-    match state {
-        TypeState::Done(name) => Ok(name),
-        TypeState::Want => Err(TypeState::Want),
-        TypeState::Have(name) => Err(TypeState::Have(name)),
-    }
 }
 
 #[tactic(auto, using(crate::proofs::Lists::popped_last), unfolding(crate::specs::TypeReading::type_step, crate::specs::TypeReading::popped))]

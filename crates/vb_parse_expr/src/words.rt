@@ -154,45 +154,45 @@ pub fn operator_of(token: &Token) -> Option<(BinaryOperator, u8)>
 fn word_unused(word: Keyword) -> bool
     ensures { result ≡ spec.word_unused word }
 {
-    match word {
-        Keyword::Alias => true,
-        Keyword::CDate => true,
-        Keyword::CDbl => true,
-        Keyword::CDec => true,
-        Keyword::CObj => true,
-        Keyword::CSng => true,
-        Keyword::Date => true,
-        Keyword::Decimal => true,
-        Keyword::Declare => true,
-        Keyword::Default => true,
-        Keyword::Double => true,
-        Keyword::EndIf => true,
-        Keyword::Enum => true,
-        Keyword::Erase => true,
-        Keyword::GetType => true,
-        Keyword::GetXmlNamespace => true,
-        Keyword::Global => true,
-        Keyword::GoSub => true,
-        Keyword::Handles => true,
-        Keyword::Let => true,
-        Keyword::Lib => true,
-        Keyword::Like => true,
-        Keyword::MyClass => true,
-        Keyword::Namespace => true,
-        Keyword::Narrowing => true,
-        Keyword::Operator => true,
-        Keyword::Optional => true,
-        Keyword::ParamArray => true,
-        Keyword::Partial => true,
-        Keyword::Single => true,
-        Keyword::Stop => true,
-        Keyword::Structure => true,
-        Keyword::Variant => true,
-        Keyword::Wend => true,
-        Keyword::Widening => true,
-        Keyword::WithEvents => true,
-        _ => false,
-    }
+    matches!(
+        word,
+        Keyword::Alias
+            | Keyword::CDate
+            | Keyword::CDbl
+            | Keyword::CDec
+            | Keyword::CObj
+            | Keyword::CSng
+            | Keyword::Date
+            | Keyword::Decimal
+            | Keyword::Declare
+            | Keyword::Default
+            | Keyword::Double
+            | Keyword::EndIf
+            | Keyword::Enum
+            | Keyword::Erase
+            | Keyword::GetType
+            | Keyword::GetXmlNamespace
+            | Keyword::Global
+            | Keyword::GoSub
+            | Keyword::Handles
+            | Keyword::Let
+            | Keyword::Lib
+            | Keyword::Like
+            | Keyword::MyClass
+            | Keyword::Namespace
+            | Keyword::Narrowing
+            | Keyword::Operator
+            | Keyword::Optional
+            | Keyword::ParamArray
+            | Keyword::Partial
+            | Keyword::Single
+            | Keyword::Stop
+            | Keyword::Structure
+            | Keyword::Variant
+            | Keyword::Wend
+            | Keyword::Widening
+            | Keyword::WithEvents
+    )
 }
 
 fn is_unused(token: &Token) -> bool

@@ -62,24 +62,24 @@ no_label t us n none (vs, split, (u, split', p)) =
 
 action_same : (ts us : List Token) (a b : OnErrorAction) → ts ≡ us → IsAction ts a → IsAction us b → a ≡ b
 action_same ts us (action.GoTo n) (action.GoTo m) e (vs, split, p) (ws, split', q) = ap action.GoTo (named_same vs ws n m (cc) p q)
-action_same ts us (action.GoTo n) action.GoToZero e p (l, value, split) =
+action_same ts us (action.GoTo n) action.GoToZero e p (l, value, digit, split) =
     absurd (no_label (token.Integer l) [] n refl (subst (λ (vs : List Token). Begins word.GoTo (IsNamed n) vs) (e ∙ split) p))
-action_same ts us (action.GoTo n) action.GoToMinusOne e p (l, value, split) =
+action_same ts us (action.GoTo n) action.GoToMinusOne e p (l, value, digit, split) =
     absurd (no_label _ _ n refl (subst (λ (vs : List Token). Begins word.GoTo (IsNamed n) vs) (e ∙ split) p))
 action_same ts us (action.GoTo n) action.ResumeNext e (vs, split, p) q = absurd cc
-action_same ts us action.GoToZero (action.GoTo n) e (l, value, split) q =
+action_same ts us action.GoToZero (action.GoTo n) e (l, value, digit, split) q =
     absurd (no_label (token.Integer l) [] n refl (subst (λ (vs : List Token). Begins word.GoTo (IsNamed n) vs) (sym e ∙ split) q))
 action_same ts us action.GoToZero action.GoToZero e p q = refl
-action_same ts us action.GoToZero action.GoToMinusOne e (l, value, split) (l', value', split') = absurd cc
-action_same ts us action.GoToZero action.ResumeNext e (l, value, split) q = absurd cc
-action_same ts us action.GoToMinusOne (action.GoTo n) e (l, value, split) q =
+action_same ts us action.GoToZero action.GoToMinusOne e (l, value, digit, split) (l', value', digit', split') = absurd cc
+action_same ts us action.GoToZero action.ResumeNext e (l, value, digit, split) q = absurd cc
+action_same ts us action.GoToMinusOne (action.GoTo n) e (l, value, digit, split) q =
     absurd (no_label _ _ n refl (subst (λ (vs : List Token). Begins word.GoTo (IsNamed n) vs) (sym e ∙ split) q))
-action_same ts us action.GoToMinusOne action.GoToZero e (l, value, split) (l', value', split') = absurd cc
+action_same ts us action.GoToMinusOne action.GoToZero e (l, value, digit, split) (l', value', digit', split') = absurd cc
 action_same ts us action.GoToMinusOne action.GoToMinusOne e p q = refl
-action_same ts us action.GoToMinusOne action.ResumeNext e (l, value, split) q = absurd cc
+action_same ts us action.GoToMinusOne action.ResumeNext e (l, value, digit, split) q = absurd cc
 action_same ts us action.ResumeNext (action.GoTo n) e p (vs, split, q) = absurd cc
-action_same ts us action.ResumeNext action.GoToZero e p (l, value, split) = absurd cc
-action_same ts us action.ResumeNext action.GoToMinusOne e p (l, value, split) = absurd cc
+action_same ts us action.ResumeNext action.GoToZero e p (l, value, digit, split) = absurd cc
+action_same ts us action.ResumeNext action.GoToMinusOne e p (l, value, digit, split) = absurd cc
 action_same ts us action.ResumeNext action.ResumeNext e p q = refl
 
 pub on_error_same : (c : Context) (ts : List Token) (a b : OnErrorAction) → IsOtherItem c ts (item.OnError a) → IsOtherItem c ts (item.OnError b) → item.OnError a ≡ item.OnError b

@@ -1,5 +1,5 @@
 -- What is read behind `On` stands there.
-use Rattle.std.proofs.Common.{◌≡◌, pos, Bool, true, false, if◌then◌else◌, List, [], ◌∷◌, drop, Option, Some, None, refl, subst}
+use Rattle.std.proofs.Common.{◌≡◌, pos, Bool, true, false, if◌then◌else◌, ◌&&◌, List, [], ◌∷◌, drop, Option, Some, None, refl, subst}
 use Rattle.std.specs.Ordering.{int_eq}
 use Rattle.std.proofs.lemmas.Bool.Decides.{Decides-int_eq}
 use Rattle.vb_syntax.specs.declared.keyword.Keyword.TheVariants as word
@@ -18,23 +18,25 @@ abbrev pub IsThere : List Token → Option OnErrorAction → Type 0
 IsThere ts (Some a) = IsErrorAction ts a
 IsThere ts None = Unit {0}
 
-zero_there : (l : IntegerLiteral) (b : Bool) → (b ≡ true → l.value ≡ pos 0)
-    → IsThere (reserved word.Error ∷ reserved word.GoTo ∷ token.Integer l ∷ []) (if b then Some action.GoToZero else None)
-zero_there l true is = (_, refl, (l, is refl, refl))
-zero_there l false is = tt
+zero_there : (l : IntegerLiteral) (b d : Bool) → (b ≡ true → l.value ≡ pos 0) → l.is_digit ≡ d
+    → IsThere (reserved word.Error ∷ reserved word.GoTo ∷ token.Integer l ∷ []) (if b && d then Some action.GoToZero else None)
+zero_there l true true is digit = (_, refl, (l, is refl, digit, refl))
+zero_there l true false is digit = tt
+zero_there l false d is digit = tt
 
-one_there : (l : IntegerLiteral) (b : Bool) → (b ≡ true → l.value ≡ pos 1)
-    → IsThere (reserved word.Error ∷ reserved word.GoTo ∷ token.Symbol sign.Minus ∷ token.Integer l ∷ []) (if b then Some action.GoToMinusOne else None)
-one_there l true is = (_, refl, (l, is refl, refl))
-one_there l false is = tt
+one_there : (l : IntegerLiteral) (b d : Bool) → (b ≡ true → l.value ≡ pos 1) → l.is_digit ≡ d
+    → IsThere (reserved word.Error ∷ reserved word.GoTo ∷ token.Symbol sign.Minus ∷ token.Integer l ∷ []) (if b && d then Some action.GoToMinusOne else None)
+one_there l true true is digit = (_, refl, (l, is refl, digit, refl))
+one_there l true false is digit = tt
+one_there l false d is digit = tt
 
 action_there : (ts : List Token) → IsThere (drop 1 ts) (action_of ts)
 action_there (first ∷ token.Keyword word.Error ∷ token.Keyword word.GoTo ∷ token.Name n ∷ []) = (_, refl, (_, refl, (token.Name n, refl, refl)))
 action_there (first ∷ token.Keyword word.Error ∷ token.Keyword word.GoTo ∷ token.EscapedName n ∷ []) = (_, refl, (_, refl, (token.EscapedName n, refl, refl)))
 action_there (first ∷ token.Keyword word.Error ∷ token.Keyword word.GoTo ∷ token.Integer l ∷ []) =
-    let decides = Decides-int_eq l.value (pos 0) in zero_there l (int_eq l.value (pos 0)) decides.0
+    let decides = Decides-int_eq l.value (pos 0) in zero_there l (int_eq l.value (pos 0)) l.is_digit decides.0 refl
 action_there (first ∷ token.Keyword word.Error ∷ token.Keyword word.GoTo ∷ token.Symbol sign.Minus ∷ token.Integer l ∷ []) =
-    let decides = Decides-int_eq l.value (pos 1) in one_there l (int_eq l.value (pos 1)) decides.0
+    let decides = Decides-int_eq l.value (pos 1) in one_there l (int_eq l.value (pos 1)) l.is_digit decides.0 refl
 action_there (first ∷ token.Keyword word.Error ∷ token.Keyword word.Resume ∷ token.Keyword word.Next ∷ []) = (_, refl, refl)
 action_there ts = tt
 

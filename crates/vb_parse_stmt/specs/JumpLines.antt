@@ -1,5 +1,5 @@
 -- How the tokens of a jump are looked at: private functions, which the code equals.
-use Rattle.std.specs.Prelude.{pos, if◌then◌else◌, List, [], ◌∷◌, Option, Some, None}
+use Rattle.std.specs.Prelude.{pos, if◌then◌else◌, ◌&&◌, List, [], ◌∷◌, Option, Some, None}
 use Rattle.std.specs.Ordering.{int_eq}
 use Rattle.vb_text.specs.declared.names.Name.{Name}
 use Rattle.vb_syntax.specs.declared.{keyword.Keyword.Keyword, tokens.Token.Token, statement.{ExitKind.ExitKind, ContinueKind.ContinueKind, OnErrorAction.OnErrorAction, ResumePlace.ResumePlace}}
@@ -57,8 +57,8 @@ abbrev pub action_of : List Token → Option OnErrorAction
 action_of (first ∷ token.Keyword word.Error ∷ token.Keyword word.GoTo ∷ token.Name n ∷ []) = Some (action.GoTo n)
 action_of (first ∷ token.Keyword word.Error ∷ token.Keyword word.GoTo ∷ token.EscapedName n ∷ []) = Some (action.GoTo n)
 action_of (first ∷ token.Keyword word.Error ∷ token.Keyword word.GoTo ∷ token.Integer l ∷ []) =
-    if int_eq l.value (pos 0) then Some action.GoToZero else None
+    if int_eq l.value (pos 0) && l.is_digit then Some action.GoToZero else None
 action_of (first ∷ token.Keyword word.Error ∷ token.Keyword word.GoTo ∷ token.Symbol sign.Minus ∷ token.Integer l ∷ []) =
-    if int_eq l.value (pos 1) then Some action.GoToMinusOne else None
+    if int_eq l.value (pos 1) && l.is_digit then Some action.GoToMinusOne else None
 action_of (first ∷ token.Keyword word.Error ∷ token.Keyword word.Resume ∷ token.Keyword word.Next ∷ []) = Some action.ResumeNext
 action_of ts = None

@@ -1,5 +1,5 @@
 -- The parts of statements.
-use Rattle.std.specs.Prelude.{◌≡◌, ◌⊎◌, pos, List, [], ◌∷◌, ◌++◌, Option, Some, None}
+use Rattle.std.specs.Prelude.{◌≡◌, ◌⊎◌, pos, true, List, [], ◌∷◌, ◌++◌, Option, Some, None}
 use Rattle.vb_text.specs.declared.names.Name.{Name}
 use Rattle.vb_syntax.specs.declared.{keyword.Keyword.Keyword, symbol.Symbol.Symbol, tokens.{IntegerLiteral.IntegerLiteral, Token.Token}, expression.{RelationalOperator.RelationalOperator, Expr.Expr}, declaration.{OptionSetting.OptionSetting, OptionSwitch.OptionSwitch}, statement.{LocalModifier.LocalModifier, CompoundOperator.CompoundOperator, ExitKind.ExitKind, ContinueKind.ContinueKind, OnErrorAction.OnErrorAction, ResumePlace.ResumePlace, LoopCondition.LoopCondition, LoopControlVariable.LoopControlVariable, CaseItem.CaseItem, CatchVariable.CatchVariable, UsingResource.UsingResource}, words.ContextualWords.ContextualWords}
 use Rattle.vb_syntax.specs.declared.keyword.Keyword.TheVariants as word
@@ -69,8 +69,8 @@ continue_word continue.While = word.While
 -- what stands behind `On Error`
 abbrev pub IsAction : List Token → OnErrorAction → Type 0
 IsAction ts (action.GoTo n) = Begins word.GoTo (IsNamed n) ts
-IsAction ts action.GoToZero = (l : IntegerLiteral) × (l.value ≡ pos 0) × (ts ≡ reserved word.GoTo ∷ token.Integer l ∷ [])
-IsAction ts action.GoToMinusOne = (l : IntegerLiteral) × (l.value ≡ pos 1) × (ts ≡ reserved word.GoTo ∷ token.Symbol sign.Minus ∷ token.Integer l ∷ [])
+IsAction ts action.GoToZero = (l : IntegerLiteral) × (l.value ≡ pos 0) × (l.is_digit ≡ true) × (ts ≡ reserved word.GoTo ∷ token.Integer l ∷ [])
+IsAction ts action.GoToMinusOne = (l : IntegerLiteral) × (l.value ≡ pos 1) × (l.is_digit ≡ true) × (ts ≡ reserved word.GoTo ∷ token.Symbol sign.Minus ∷ token.Integer l ∷ [])
 IsAction ts action.ResumeNext = ts ≡ reserved word.Resume ∷ reserved word.Next ∷ []
 
 -- what stands behind `Resume`

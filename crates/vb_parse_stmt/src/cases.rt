@@ -7,11 +7,10 @@ ghost use Rattle.vb_parse_decl.specs.Answers.{Tells};
 ghost use Rattle.vb_parse_decl.specs.Parts.{AreListed};
 ghost use Rattle.vb_parse_stmt.specs.Statements.{IsCaseItem};
 
-use sqlite_items::Items;
 use std::alloc::Global;
 use vb_parse_decl::{is_over, over_expression, rest};
 use vb_parse_expr::{ParseErr, one_reading, parse_expr, primary_begins, refusal};
-use vb_syntax::{CaseItem, Keyword, Line, RelationalOperator, Symbol, Token};
+use vb_syntax::{CaseItem, Items, Keyword, Line, RelationalOperator, Symbol, Token};
 
 // One part or several with commas between them, which all tokens behind the first are.
 pub fn case_items(alloc: Global, line: &Line) -> Result<Items<CaseItem>, ParseErr>

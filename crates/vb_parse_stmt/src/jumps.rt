@@ -135,14 +135,14 @@ fn action(line: &Line) -> Option<OnErrorAction>
             Token::Keyword(Keyword::Error),
             Token::Keyword(Keyword::GoTo),
             Token::Integer(literal),
-        ] if literal.value == 0 => Some(OnErrorAction::GoToZero),
+        ] if literal.value == 0 && literal.is_digit => Some(OnErrorAction::GoToZero),
         [
             _,
             Token::Keyword(Keyword::Error),
             Token::Keyword(Keyword::GoTo),
             Token::Symbol(Symbol::Minus),
             Token::Integer(literal),
-        ] if literal.value == 1 => Some(OnErrorAction::GoToMinusOne),
+        ] if literal.value == 1 && literal.is_digit => Some(OnErrorAction::GoToMinusOne),
         [
             _,
             Token::Keyword(Keyword::Error),

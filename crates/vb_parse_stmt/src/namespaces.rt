@@ -7,11 +7,10 @@ ghost use Rattle.vb_parse_decl.specs.Answers.{Tells};
 ghost use Rattle.vb_parse_decl.specs.Parts.{AreListed};
 ghost use Rattle.vb_parse_expr.specs.Types.{SpellsNames};
 
-use sqlite_items::Items;
 use std::alloc::Global;
 use vb_parse_decl::{first_name, is_over, rest};
 use vb_parse_expr::{ParseErr, refusal};
-use vb_syntax::{Line, Symbol, Token};
+use vb_syntax::{Items, Line, Symbol, Token};
 use vb_text::Name;
 
 // One namespace or several with commas between them, which all tokens behind the first are.

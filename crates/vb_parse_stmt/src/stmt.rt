@@ -22,7 +22,7 @@ use crate::tries::{catch, finally, sync_lock, try_front, using, with};
 use std::alloc::Global;
 use vb_parse_decl::{one_declaration, parse_declaration};
 use vb_parse_expr::{ParseErr, one_reading, primary_begins};
-use vb_syntax::{Context, Item, Line};
+use vb_syntax::{Boxed, Context, Item, Line};
 
 /// What stands on the line, or on a part of it between colons, by itself: an option; `Imports`; a line of the declarations of types and members;
 /// a statement without a block, or what begins, parts or ends a block (Visual Basic Language Specification 11.0, 6.2, 6.3.2, 7, 9 and 10). The context tells
@@ -34,7 +34,7 @@ pub fn parse_stmt(alloc: Global, context: &Context, line: &Line) -> Result<Item,
     ensures { Tells (IsItem context.now) line.now line.now.tokens result }
 {
     match parse_declaration(alloc, &context.words, line) {
-        Ok(found) => Ok(Item::Declares(found)),
+        Ok(found) => Ok(Item::Declares(Boxed::new(alloc, found)?)),
         Err(ParseErr::Memory) => Err(ParseErr::Memory),
         Err(ParseErr::Refused(_)) => other_item(alloc, context, line),
     }

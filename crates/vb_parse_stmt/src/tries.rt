@@ -10,12 +10,12 @@ ghost use Rattle.vb_parse_decl.specs.Answers.{Tells};
 ghost use Rattle.vb_parse_stmt.specs.Reading.{front_of, IsItemFrom};
 
 use crate::block_parts::{few_tokens, is_word_at, name_at, type_at};
-use sqlite_items::Items;
 use std::alloc::Global;
 use vb_parse_decl::{is_equal_at, whole_expression};
 use vb_parse_expr::{ParseErr, one_reading, parse_primary, refusal};
 use vb_syntax::{
-    CatchVariable, Context, Expr, Item, Keyword, Line, SimpleTypeName, TypeName, UsingResource,
+    CatchVariable, Context, Expr, Item, Items, Keyword, Line, SimpleTypeName, TypeName,
+    UsingResource,
 };
 use vb_text::Name;
 

@@ -12,5 +12,5 @@ loop-turn-preserved c =
     let e = one_more at_most c.len-turn-end.result c.loop-turn._turn c.loop-turn-test.true c.loop-turn.invariant in
     let p : popped c.loop-turn.waiting ≡ Some (c.pop.new.self, c.in-Some.pending) = popped_last _ _ _ c.in-Some.ensures in
     let t = ap (settled_at s (settled s n) c.loop-turn.waiting c.loop-turn.operand) p in
-    let took = subst (λ r. Settles s c.in-Some.pending c.loop-turn.operand (Ok r)) c.in-Ok.is c.in_ok-whole.ensures in
+    let took = subst (λ r. Settles s c.in-Some.pending c.loop-turn.operand (Ok r)) c.in-Whole.is c.in_ok-whole.ensures in
     e ∙ (t ∙ took (settled s n) c.loop-turn.waiting c.pop.new.self)
