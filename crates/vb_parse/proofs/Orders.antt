@@ -1,76 +1,36 @@
 -- The least of several broken rules.
-use Rattle.std.proofs.Common.{◌≡◌, ◌⊎◌, inl, inr, ℕ, ◌<◌, ◌≤◌, List, [], ◌∷◌, ◌++◌, Option, Some, None, refl, sym, subst, ◌∙◌, arith}
-use Rattle.vb_ends.specs.Enders.{IsLeast}
+use Rattle.std.proofs.Common.{◌≡◌, ◌⊎◌, inl, inr, ℕ, List, [], ◌∷◌, ◌++◌, Option, Some, None, refl, sym, subst, arith}
+use Rattle.vb_diag.specs.{declared.refusal.Refusal.Refusal, Broken.{InFile, OfRule, IsLeast, IsLeastLine, lesser, lesser_line, broken_at}}
+use Rattle.vb_diag.proofs.Least.{least_same, least_of_two, least_at, lines_ordered, rules_ordered}
 use Rattle.vb_syntax.specs.declared.item.Row.{Row}
 use Rattle.vb_parse.specs.Where.{HasRow}
-use Rattle.vb_parse.specs.Least.{IsLeastBroken}
-use Rattle.vb_parse.specs.declared.broken.Broken.{Broken}
-use Rattle.vb_parse.specs.Broken.{NotBefore, IsLesser, IsLesserLine, broken_at, IsLeastOf}
 
--- no (l, r) stands before (line, rule)
-abbrev Later : ℕ → ℕ → ℕ → ℕ → Type 0
-Later line rule l r = (line < l) ⊎ ((line ≡ l) × (rule ≤ r))
+-- one of the two is broken
+abbrev pub Either : (ℕ → ℕ → Type 0) → (ℕ → ℕ → Type 0) → ℕ → ℕ → Type 0
+Either P Q line rule = P line rule ⊎ Q line rule
 
-later : (a b c d e f : ℕ) → Later a b c d → Later c d e f → Later a b e f
-later a b c d e f (inl x) (inl y) = inl (omega arith)
-later a b c d e f (inl x) (inr y) = let same = y.0 in inl (omega arith)
-later a b c d e f (inr x) (inl y) = let same = x.0 in inl (omega arith)
-later a b c d e f (inr x) (inr y) = let s = x.0 in let t = y.0 in let l = x.1 in let m = y.1 in let both : b ≤ f = omega arith in inr (s ∙ t, both)
-
-module _ (P Q : ℕ → ℕ → Type 0) where
-  abbrev pub Either : ℕ → ℕ → Type 0
-  Either line rule = P line rule ⊎ Q line rule
-
-  first_least : (a b : Broken) → IsLeastBroken P a.line a.rule → IsLeastBroken Q b.line b.rule → NotBefore a b → IsLeastBroken Either a.line a.rule
-  first_least a b p q n = record {
-    broken = inl p.broken;
-    least = λ l r e. elim e [ inl h ↦ p.least l r h | inr h ↦ later a.line a.rule b.line b.rule l r n (q.least l r h) ];
-  }
-
-  second_least : (a b : Broken) → IsLeastBroken P a.line a.rule → IsLeastBroken Q b.line b.rule → NotBefore b a → IsLeastBroken Either b.line b.rule
-  second_least a b p q n = record {
-    broken = inr q.broken;
-    least = λ l r e. elim e [ inl h ↦ later b.line b.rule a.line a.rule l r n (p.least l r h) | inr h ↦ q.least l r h ];
-  }
-
-  chosen : (a b : Broken) (o : Option Broken) → IsLeastBroken P a.line a.rule → IsLeastBroken Q b.line b.rule → IsLesser (Some a) (Some b) o → IsLeastOf Either o
-  chosen a b o p q (inl h) = subst (λ (x : Option Broken). IsLeastOf Either x) (sym h.0) (first_least a b p q h.1)
-  chosen a b o p q (inr h) = subst (λ (x : Option Broken). IsLeastOf Either x) (sym h.0) (second_least a b p q h.1)
-
+module _ (file : ℕ) (P Q : ℕ → ℕ → Type 0) where
   -- the lesser of the two is the least of both
-  pub either_least : (a b o : Option Broken) → IsLeastOf P a → IsLeastOf Q b → IsLesser a b o → IsLeastOf Either o
-  either_least None None o p q is = subst (λ (x : Option Broken). IsLeastOf Either x) (sym is) (λ l r e. elim e [ inl h ↦ p l r h | inr h ↦ q l r h ])
-  either_least None (Some b) o p q is = subst (λ (x : Option Broken). IsLeastOf Either x) (sym is) (record { broken = inr q.broken; least = λ l r e. elim e [ inl h ↦ absurd (p l r h) | inr h ↦ q.least l r h ] })
-  either_least (Some a) None o p q is = subst (λ (x : Option Broken). IsLeastOf Either x) (sym is) (record { broken = inl p.broken; least = λ l r e. elim e [ inl h ↦ p.least l r h | inr h ↦ absurd (q l r h) ] })
-  either_least (Some a) (Some b) o p q is = chosen a b o p q is
+  pub either_least : (a b o : Option Refusal) → IsLeast (InFile file P) a → IsLeast (InFile file Q) b → o ≡ lesser a b → IsLeast (InFile file (Either P Q)) o
+  either_least a b o p q is =
+      subst (λ (x : Option Refusal). IsLeast (InFile file (Either P Q)) x) (sym is)
+      (least_same rules_ordered (λ z. InFile file P z ⊎ InFile file Q z) (InFile file (Either P Q)) (lesser a b)
+      (least_of_two rules_ordered (InFile file P) (InFile file Q) a b p q)
+      (λ z u. elim u [ inl h ↦ (h.0, inl h.1) | inr h ↦ (h.0, inr h.1) ])
+      (λ z h. elim h.1 [ inl k ↦ inl (h.0, k) | inr k ↦ inr (h.0, k) ]))
 
   -- the least of one is the least of another that is broken just where it is
-  pub same_least : (o : Option Broken) → ((l r : ℕ) → P l r → Q l r) → ((l r : ℕ) → Q l r → P l r) → IsLeastOf P o → IsLeastOf Q o
-  same_least None there back p = λ l r q. p l r (back l r q)
-  same_least (Some b) there back p = record { broken = there b.line b.rule p.broken; least = λ l r q. p.least l r (back l r q) }
-
-module _ (P : ℕ → Type 0) (n : ℕ) where
-  abbrev pub Numbered : ℕ → ℕ → Type 0
-  Numbered line rule = (rule ≡ n) × P line
-
-  order : (a b : ℕ) → a ≤ b → (a < b) ⊎ (a ≡ b)
-  order a b le = grind arith
-
-  later_line : (first l r : ℕ) → first ≤ l → r ≡ n → Later first n l r
-  later_line first l r le e = elim (order first l le) [ inl h ↦ inl h | inr h ↦ let small : n ≤ r = omega arith in inr (h, small) ]
-
-  -- the least line is the least of the rule
-  pub numbered_least : (first : Option ℕ) → IsLeast P first → IsLeastOf Numbered (broken_at n first)
-  numbered_least None p = λ l r h. p l h.1
-  numbered_least (Some first) p = record { broken = (refl, p.0); least = λ l r h. later_line first l r (p.1 l h.1) h.0 }
+  pub same_least : (o : Option Refusal) → ((l r : ℕ) → P l r → Q l r) → ((l r : ℕ) → Q l r → P l r) → IsLeast (InFile file P) o → IsLeast (InFile file Q) o
+  same_least o there back p = least_same rules_ordered (InFile file P) (InFile file Q) o p (λ z h. (h.0, there z.line z.rule h.1)) (λ z h. (h.0, back z.line z.rule h.1))
 
 -- the least line at which a rule is broken, with the number of the rule
-pub one_rule : (P : ℕ → Type 0) (n : ℕ) (first : Option ℕ) (broken : Option Broken) → IsLeast P first → broken ≡ broken_at n first → IsLeastOf (Numbered P n) broken
-one_rule P n first broken p is = subst (λ (o : Option Broken). IsLeastOf (Numbered P n) o) (sym is) (numbered_least P n first p)
+pub one_rule : (file : ℕ) (P : ℕ → Type 0) (n : ℕ) (first : Option ℕ) (broken : Option Refusal) → IsLeastLine P first → broken ≡ broken_at file n first → IsLeast (InFile file (OfRule n P)) broken
+one_rule file P n first broken p is = subst (λ (o : Option Refusal). IsLeast (InFile file (OfRule n P)) o) (sym is) (least_at file n P first p)
 
 -- the lesser of that and the least of other rules
-pub one_rule_more : (P : ℕ → Type 0) (n : ℕ) (Q : ℕ → ℕ → Type 0) (first : Option ℕ) (broken least all : Option Broken) → IsLeast P first → broken ≡ broken_at n first → IsLesser broken least all → IsLeastOf Q least → IsLeastOf (Either (Numbered P n) Q) all
-one_rule_more P n Q first broken least all p is lesser q = either_least (Numbered P n) Q broken least all (one_rule P n first broken p is) q lesser
+pub one_rule_more : (file : ℕ) (P : ℕ → Type 0) (n : ℕ) (Q : ℕ → ℕ → Type 0) (first : Option ℕ) (broken least all : Option Refusal) → IsLeastLine P first → broken ≡ broken_at file n first → all ≡ lesser broken least → IsLeast (InFile file Q) least
+    → IsLeast (InFile file (Either (OfRule n P) Q)) all
+one_rule_more file P n Q first broken least all p is lesser q = either_least file (OfRule n P) Q broken least all (one_rule file P n first broken p is) q lesser
 
 -- THE LEAST LINE OF A LOOP OVER ROWS
 
@@ -89,18 +49,15 @@ module _ (Is : Row → Type 0) where
   before (x ∷ xs) r n (inr h) = elim (before xs r n h) [ inl k ↦ inl (inr k) | inr k ↦ inr k ]
 
   -- a row of the kind
-  pub takes_one : (xs : List Row) (r : Row) (first o : Option ℕ) → IsLeast (HasRow Is xs) first → Is r → IsLesserLine first r.line o → IsLeast (HasRow Is (xs ++ r ∷ [])) o
-  takes_one xs r None o p is l =
-      subst (λ (x : Option ℕ). IsLeast (HasRow Is (xs ++ r ∷ [])) x) (sym l)
-      (behind xs r r.line (inr (refl, is)), λ n h. elim (before xs r n h) [ inl k ↦ absurd (p n k) | inr k ↦ let same = k.0 in let b : r.line ≤ n = omega arith in b ])
-  takes_one xs r (Some first) o p is (inl l) =
-      subst (λ (x : Option ℕ). IsLeast (HasRow Is (xs ++ r ∷ [])) x) (sym l.0)
-      (behind xs r first (inl p.0), λ n h. elim (before xs r n h) [ inl k ↦ p.1 n k | inr k ↦ let same = k.0 in let le = l.1 in let b : first ≤ n = omega arith in b ])
-  takes_one xs r (Some first) o p is (inr l) =
-      subst (λ (x : Option ℕ). IsLeast (HasRow Is (xs ++ r ∷ [])) x) (sym l.0)
-      (behind xs r r.line (inr (refl, is)), λ n h. elim (before xs r n h) [ inl k ↦ let le = l.1 in let more = p.1 n k in let b : r.line ≤ n = omega arith in b | inr k ↦ let same = k.0 in let b : r.line ≤ n = omega arith in b ])
+  pub takes_one : (xs : List Row) (r : Row) (first o : Option ℕ) → IsLeastLine (HasRow Is xs) first → Is r → o ≡ lesser_line first (Some r.line) → IsLeastLine (HasRow Is (xs ++ r ∷ [])) o
+  takes_one xs r first o p is l =
+      subst (λ (x : Option ℕ). IsLeastLine (HasRow Is (xs ++ r ∷ [])) x) (sym l)
+      (least_same lines_ordered (λ n. HasRow Is xs n ⊎ (n ≡ r.line)) (HasRow Is (xs ++ r ∷ [])) (lesser_line first (Some r.line))
+      (least_of_two lines_ordered (HasRow Is xs) (λ n. n ≡ r.line) first (Some r.line) p (refl, λ n e. omega (arith, e)))
+      (λ n h. behind xs r n (elim h [ inl k ↦ inl k | inr e ↦ inr (e, is) ]))
+      (λ n h. elim (before xs r n h) [ inl k ↦ inl k | inr k ↦ inr k.0 ]))
 
   -- a row of no such kind
-  pub leaves_one : (xs : List Row) (r : Row) (first : Option ℕ) → IsLeast (HasRow Is xs) first → (Is r → ⊥) → IsLeast (HasRow Is (xs ++ r ∷ [])) first
+  pub leaves_one : (xs : List Row) (r : Row) (first : Option ℕ) → IsLeastLine (HasRow Is xs) first → (Is r → ⊥) → IsLeastLine (HasRow Is (xs ++ r ∷ [])) first
   leaves_one xs r None p not = λ n h. elim (before xs r n h) [ inl k ↦ p n k | inr k ↦ not k.1 ]
   leaves_one xs r (Some first) p not = (behind xs r first (inl p.0), λ n h. elim (before xs r n h) [ inl k ↦ p.1 n k | inr k ↦ absurd (not k.1) ])

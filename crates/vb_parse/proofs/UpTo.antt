@@ -1,10 +1,12 @@
 -- The front of the rows and what is behind it.
-use Rattle.std.proofs.Common.{◌≡◌, ◌⊎◌, inl, inr, ℕ, ◌<◌, List, [], ◌∷◌, ◌++◌, Option, Some, None, Err, refl, ap, sym, ◌∙◌, append_assoc, append-nil, subst}
+use Rattle.std.proofs.Common.{◌≡◌, ◌⊎◌, inl, inr, ℕ, ◌-◌, ◌<◌, ◌≤◌, Bool, true, false, if◌then◌else◌, List, [], ◌∷◌, ◌++◌, Option, Some, None, Err, refl, ap, sym, ◌∙◌, append_assoc, append-nil, subst, arith}
+use Rattle.std.specs.Prelude.{nat_lt}
+use Rattle.std.proofs.lemmas.Bool.Decides.{nat_tests}
+use Rattle.vb_diag.specs.declared.refusal.Refusal.{Refusal}
 use Rattle.vb_syntax.specs.declared.item.Row.{Row}
 use Rattle.vb_blocks.specs.Trees.{CanGoOn, IsMisplaced}
 use Rattle.vb_tree.specs.declared.tree.BuildErr.TheVariants as build
-use Rattle.vb_parse.specs.declared.broken.Broken.{Broken}
-use Rattle.vb_parse.specs.UpTo.{AreBehind, IsUpTo, IsFront, IsFrontBuilt}
+use Rattle.vb_parse.specs.UpTo.{AreBehind, IsUpTo, last_line, IsFront, IsFrontBuilt}
 
 pub all_rows : (line : ℕ) (rows : List Row) → IsUpTo line rows rows
 all_rows line rows = record { rest = []; are = sym (append-nil rows); behind = tt }
@@ -42,12 +44,30 @@ pub misplaced_here : (rows front : List Row) (least line : ℕ) → IsUpTo least
 misplaced_here rows front least line u (before, r, behind, is, on, off, at) =
     placed_part front u.rest before r least line u.behind on off at (part front u.rest before r behind (sym u.are ∙ is))
 
--- where memory ran out, any front will do
-some_front : (rows : List Row) (broken : Option Broken) → (front : List Row) × IsFront broken rows front
-some_front rows None = (rows, refl)
-some_front rows (Some b) = (rows, all_rows b.line rows)
+at_or_behind : (a b : ℕ) (s : Bool) → nat_lt a b ≡ s → a - 1 < b → (a < b) ⊎ (a ≡ b)
+at_or_behind a b true e h = let less : a < b = grind (arith, nat_tests, e) in inl less
+at_or_behind a b false e h = let no : b ≤ a = grind (arith, nat_tests, e) in inr (omega (arith, h, no))
 
-pub never_built : (file : ℕ) (rows : List Row) (broken : Option Broken) → IsFrontBuilt file rows broken (Err build.Memory)
+by_number : (b : Refusal) (line : ℕ) (s : Bool) → nat_lt b.rule 34 ≡ s → last_line b < line → (b.line < line) ⊎ ((b.line ≡ line) × (b.rule ≤ 34))
+by_number b line true e h =
+    let small : b.rule < 34 = grind (arith, nat_tests, e) in
+    let here : b.line - 1 < line = subst (λ (s : Bool). (if s then b.line - 1 else b.line) < line) e h in
+    elim (at_or_behind b.line line (nat_lt b.line line) refl here) [ inl less ↦ inl less | inr same ↦ inr (same, omega (arith, small)) ]
+by_number b line false e h = inl (subst (λ (s : Bool). (if s then b.line - 1 else b.line) < line) e h)
+
+-- what stands behind the last line isn't told before the rule that is broken
+pub not_told_before : (b z : Refusal) → last_line b < z.line → z.rule ≡ 34 → (b.line < z.line) ⊎ ((b.line ≡ z.line) × (b.rule ≤ z.rule))
+not_told_before b z h is = elim (by_number b z.line (nat_lt b.rule 34) refl h) [
+  | inl less ↦ inl less
+  | inr here ↦ inr (here.0, subst (λ (n : ℕ). b.rule ≤ n) (sym is) here.1)
+]
+
+-- where memory ran out, any front will do
+some_front : (rows : List Row) (broken : Option Refusal) → (front : List Row) × IsFront broken rows front
+some_front rows None = (rows, refl)
+some_front rows (Some b) = (rows, all_rows (last_line b) rows)
+
+pub never_built : (file : ℕ) (rows : List Row) (broken : Option Refusal) → IsFrontBuilt file rows broken (Err build.Memory)
 never_built file rows broken =
     let f = some_front rows broken in
     record {

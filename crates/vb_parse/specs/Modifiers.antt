@@ -2,15 +2,11 @@
 use Rattle.std.specs.Prelude.{◌≡◌, ℕ, Bool, true, false, ◌||◌, List, [], ◌∷◌, Option, Some}
 use Rattle.std.specs.List.{list_any}
 use Rattle.vb_syntax.specs.declared.declaration.Access.TheVariants as access
-use Rattle.vb_syntax.specs.declared.declaration.Modifier.{Modifier}
+use Rattle.vb_syntax.specs.declared.{declaration.{Modifier.Modifier, PropertyKind.PropertyKind}, item.{DeclarationLine.DeclarationLine, Item.Item, Row.Row}}
 use Rattle.vb_syntax.specs.declared.declaration.Modifier.TheVariants as modifier
-use Rattle.vb_syntax.specs.declared.declaration.PropertyKind.{PropertyKind}
 use Rattle.vb_syntax.specs.declared.declaration.PropertyKind.TheVariants as property
-use Rattle.vb_syntax.specs.declared.item.DeclarationLine.{DeclarationLine}
 use Rattle.vb_syntax.specs.declared.item.DeclarationLine.TheVariants as line
-use Rattle.vb_syntax.specs.declared.item.Item.{Item}
 use Rattle.vb_syntax.specs.declared.item.Item.TheVariants as item
-use Rattle.vb_syntax.specs.declared.item.Row.{Row}
 use Rattle.vb_parse.specs.Where.{HasRow}
 
 -- the first and the second are the same, or two of access; `Protected Friend` in this order is one modifier

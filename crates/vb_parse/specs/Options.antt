@@ -2,9 +2,8 @@
 use Rattle.std.specs.Prelude.{◌≡◌, ℕ, Bool, true, false, List, Option, Some}
 use Rattle.vb_syntax.specs.declared.declaration.OptionSetting.TheVariants as setting
 use Rattle.vb_syntax.specs.declared.declaration.OptionSwitch.TheVariants as switch
-use Rattle.vb_syntax.specs.declared.item.Item.{Item}
+use Rattle.vb_syntax.specs.declared.item.{Item.Item, Row.Row}
 use Rattle.vb_syntax.specs.declared.item.Item.TheVariants as item
-use Rattle.vb_syntax.specs.declared.item.Row.{Row}
 use Rattle.vb_parse.specs.Where.{HasRow}
 
 abbrev pub is_unsupported : Option Item → Bool

@@ -1,19 +1,20 @@
-// The rows as far as a broken rule. What is behind it isn't told, so no tree of it is built.
-ghost use Rattle.std.specs.Prelude.{IfOk};
+// The rows as far as a broken rule. What is behind it isn't told, so no tree of it is built: none nests deeper than the rule on nesting
+// allows.
+ghost use Rattle.std.specs.Prelude.{◌≡◌, IfOk};
+ghost use Rattle.vb_parse.specs.UpTo as spec;
 ghost use Rattle.vb_parse.specs.UpTo.{IsUpTo, IsFront, IsFrontBuilt};
 
-use crate::broken::Broken;
-use sqlite_items::Items;
 use std::alloc::{AllocError, Global};
-use vb_syntax::{Row, SourceFile};
+use vb_diag::Refusal;
+use vb_syntax::{Items, Row, SourceFile};
 use vb_tree::{BuildErr, build};
 
-// The tree of the rows as far as a rule that is broken, of all where none is.
+// The tree of the rows as far as one may be told before the rule that is broken, of all where none is.
 pub fn built_front(
     alloc: Global,
     file: u32,
     rows: Items<Row>,
-    broken: &Option<Broken>,
+    broken: &Option<Refusal>,
 ) -> Result<SourceFile, BuildErr>
     ensures { IsFrontBuilt file rows broken.now result }
 {
@@ -23,12 +24,23 @@ pub fn built_front(
     }
 }
 
-// The rows as far as the last one in the line of a rule that is broken, or before it; all where none is.
-fn front_of(rows: Items<Row>, broken: &Option<Broken>) -> Result<Items<Row>, AllocError>
+// The last line in which a row may stand that is misplaced and told before the rule that is broken.
+fn last_line(broken: &Refusal) -> u32
+    ensures { result ≡ spec.last_line broken.now }
+{
+    if broken.rule.number() < 34 {
+        broken.line.saturating_sub(1)
+    } else {
+        broken.line
+    }
+}
+
+// The rows as far as that line; all where no rule is broken.
+fn front_of(rows: Items<Row>, broken: &Option<Refusal>) -> Result<Items<Row>, AllocError>
     ensures { IfOk result (λ front. IsFront broken.now rows front) }
 {
     match broken {
-        Some(broken) => up_to(rows, broken.line),
+        Some(broken) => up_to(rows, last_line(broken)),
         None => Ok(rows),
     }
 }

@@ -1,10 +1,10 @@
 // Modifiers that are repeated or exclude each other.
 ghost use Rattle.std.specs.Prelude.{◌≡◌};
-ghost use Rattle.vb_ends.specs.Enders.{IsLeast};
+ghost use Rattle.vb_diag.specs.Broken.{IsLeastLine};
 ghost use Rattle.vb_parse.specs.Modifiers as spec;
 ghost use Rattle.vb_parse.specs.Modifiers.{HasModifiersAtOdds};
 
-use crate::broken::least_line;
+use vb_diag::lesser;
 use vb_syntax::{Access, DeclarationLine, Item, Modifier, PropertyKind, Row};
 
 // Whether the two are one modifier, or both say an access.
@@ -87,10 +87,7 @@ fn has_read_only(modifiers: &[Modifier]) -> bool
 fn is_read_only(modifier: Modifier) -> bool
     ensures { result ≡ spec.is_read_only modifier }
 {
-    match modifier {
-        Modifier::ReadOnly => true,
-        _ => false,
-    }
+    matches!(modifier, Modifier::ReadOnly)
 }
 
 fn property_at_odds(modifiers: &[Modifier], kind: PropertyKind) -> bool
@@ -126,19 +123,19 @@ fn item_at_odds(item: &Option<Item>) -> bool
     ensures { result ≡ spec.item_at_odds item.now }
 {
     match item {
-        Some(Item::Declares(line)) => line_at_odds(line),
+        Some(Item::Declares(line)) => line_at_odds(line.get()),
         _ => false,
     }
 }
 
 // The least line with modifiers that are repeated or exclude each other.
 pub fn first_at_odds(rows: &[Row]) -> Option<u32>
-    ensures { IsLeast (HasModifiersAtOdds rows.now) result }
+    ensures { IsLeastLine (HasModifiersAtOdds rows.now) result }
 {
     let mut first = None;
     for row in rows {
         if item_at_odds(&row.item) {
-            first = least_line(first, row.line);
+            first = lesser(first, Some(row.line));
         }
     }
     first

@@ -1,9 +1,9 @@
 // Settings of options that aren't supported.
 ghost use Rattle.std.specs.Prelude.{◌≡◌};
-ghost use Rattle.vb_ends.specs.Enders.{IsLeast};
+ghost use Rattle.vb_diag.specs.Broken.{IsLeastLine};
 ghost use Rattle.vb_parse.specs.Options.{HasUnsupportedOption, is_unsupported as is_unsupported_item};
 
-use crate::broken::least_line;
+use vb_diag::lesser;
 use vb_syntax::{Item, OptionSetting, OptionSwitch, Row};
 
 // Whether the item sets an option as it isn't supported.
@@ -23,12 +23,12 @@ fn is_unsupported(item: &Option<Item>) -> bool
 
 // The least line with such a setting.
 pub fn first_unsupported(rows: &[Row]) -> Option<u32>
-    ensures { IsLeast (HasUnsupportedOption rows.now) result }
+    ensures { IsLeastLine (HasUnsupportedOption rows.now) result }
 {
     let mut first = None;
     for row in rows {
         if is_unsupported(&row.item) {
-            first = least_line(first, row.line);
+            first = lesser(first, Some(row.line));
         }
     }
     first

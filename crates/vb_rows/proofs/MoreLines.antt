@@ -2,7 +2,7 @@
 use Rattle.std.proofs.Common.{◌≡◌, ◌⊎◌, inl, inr, ℕ, Bool, false, List, [], ◌∷◌, ◌++◌, Option, length, take, drop, refl, sym, ap, ◌∙◌, subst, append_assoc, append-nil}
 use Rattle.std.proofs.Math.Seq.{take-append_seam, drop-append_seam, take-length}
 use Rattle.vb_syntax.specs.declared.{tokens.Line.Line, item.{Item.Item, Row.Row}, words.ContextualWords.ContextualWords}
-use Rattle.vb_rows.specs.{Rows.{items_behind, AreLineRows}, Files.{line_brackets, brackets_of, AreRowsOf, is_of_grammar, row_count, BreaksGrammar}}
+use Rattle.vb_rows.specs.{Rows.{items_behind, AreLineRows}, Files.{line_depths, depths_of, AreRowsOf, is_of_grammar, row_count, BreaksGrammar}}
 use Rattle.vb_rows.proofs.Counts.{line_count}
 
 pub behind_both : (items : List (Option Item)) (xs ys : List Row) → items_behind items (xs ++ ys) ≡ items_behind (items_behind items xs) ys
@@ -25,9 +25,9 @@ rows_more words items (k ∷ ls) rows l here known are =
           (subst (λ is. AreLineRows words is l here) (ap (λ rs. items_behind items rs) split ∙ behind_both items first later) are),
     )
 
-pub brackets_more : (ls : List Line) (l : Line) → brackets_of (ls ++ l ∷ []) ≡ brackets_of ls ++ line_brackets l
-brackets_more [] l = append-nil (line_brackets l)
-brackets_more (k ∷ ls) l = ap (λ ds. line_brackets k ++ ds) (brackets_more ls l) ∙ sym (append_assoc (line_brackets k) (brackets_of ls) (line_brackets l))
+pub depths_more : (ls : List Line) (l : Line) → depths_of (ls ++ l ∷ []) ≡ depths_of ls ++ line_depths l
+depths_more [] l = append-nil (line_depths l)
+depths_more (k ∷ ls) l = ap (λ ds. line_depths k ++ ds) (depths_more ls l) ∙ sym (append_assoc (line_depths k) (depths_of ls) (line_depths l))
 
 -- whether the next line is the first of the file
 abbrev pub flag : Bool → List Line → Bool

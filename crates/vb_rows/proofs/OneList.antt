@@ -88,7 +88,7 @@ one_line : OneItem → (words : ContextualWords) (items : List (Option Item)) (l
     → AreLineRows words items l xs → AreLineRows words items l ys → xs ≡ ys
 one_line one words items l xs ys apart short h i =
     h.joined_are
-    ∙ ap (λ ps. label_rows l.number (label_of l.tokens) ++ joined false ps) (one_parts one words l.number items (pieces_of l.tokens) h.parts i.parts apart (pieces_short most_tokens l.tokens short) h.are i.are)
+    ∙ ap (λ ps. label_rows l.number (label_of l.tokens) ++ joined false ps) (one_parts one words l.number (items_behind items (label_rows l.number (label_of l.tokens))) (pieces_of l.tokens) h.parts i.parts apart (pieces_short most_tokens l.tokens short) h.are i.are)
     ∙ sym i.joined_are
 
 -- the premise of one line more

@@ -1,26 +1,26 @@
 -- How far the pieces of a line were read.
-use Rattle.std.proofs.Common.{◌≡◌, ℕ, zero, suc, ◌≤◌, ◌<◌, ◌+◌, ◌-◌, ◌==◌, ◌&&◌, Bool, true, false, List, [], ◌∷◌, ◌++◌, Option, length, take, drop, refl, sym, ap, ◌∙◌, subst, append_assoc, append-nil, drop-drop, length-drop, arith}
+use Rattle.std.proofs.Common.{◌≡◌, ℕ, zero, suc, ◌≤◌, ◌<◌, ◌+◌, ◌-◌, ◌==◌, ◌&&◌, true, false, List, [], ◌∷◌, ◌++◌, Option, length, take, drop, refl, sym, ap, ◌∙◌, subst, append_assoc, append-nil, drop-drop, length-drop, arith}
 use Rattle.std.proofs.lemmas.List.{take_all}
 use Rattle.std.specs.List.{slice_range}
-use Rattle.vb_syntax.specs.{declared.{tokens.Token.Token, item.{Item.Item, Joint.Joint, Row.Row}, words.{Context.Context, ContextualWords.ContextualWords}}, Items.is_end}
+use Rattle.vb_syntax.specs.{declared.{tokens.Token.Token, item.{Item.Item, Joint.Joint, Row.Row}}, Items.is_end}
 use Rattle.vb_syntax.specs.declared.item.Joint.TheVariants as joint
-use Rattle.vb_rows.specs.{declared.pieces.{Found.Found, Before.Before}, Pieces.{Piece, piece, cut, kept, is_empty, parts_statements}, Cutting.{FirstPiece, Shrinks, before_behind, skipped, cut_behind, is_left_out}, Rows.{keeps_in_iterator, in_iterator, items_behind, context_behind, Spells, ArePieceRows}, Reading.{IsRowAdded, ArePiecesAdded}}
+use Rattle.vb_rows.specs.{declared.{lines.LineReader.LineReader, pieces.{Found.Found, Before.Before}}, Pieces.{Piece, piece, cut, kept, is_empty, parts_statements}, Cutting.{FirstPiece, Shrinks, before_behind, skipped, cut_behind, is_left_out}, Rows.{items_behind, context_behind, Spells, ArePieceRows}, Reading.{HasRead, IsRowAdded, ArePiecesAdded}}
 use Rattle.vb_rows.specs.declared.pieces.Before.TheVariants as before
 use Rattle.vb_rows.specs.Pieces as spec
 
 -- Of the pieces those before the rest were read, behind these items.
-pub record IsReadTo (all rest : List Piece) (earlier now : Context) (number : ℕ) (rows grown : List Row) (items : List (Option Item)) : Type 0 where
+pub record IsReadTo (all rest : List Piece) (earlier now : LineReader) (number : ℕ) (rows grown : List Row) (items : List (Option Item)) : Type 0 where
   pub parts : List Row
   pub grows : grown ≡ rows ++ parts
   pub goes_on : (more : List Row) → ArePieceRows earlier.words number (items_behind items parts) rest more → ArePieceRows earlier.words number items all (parts ++ more)
-  pub inside : now.in_iterator ≡ in_iterator (items_behind items parts)
+  pub read : HasRead now (items_behind items parts)
 
-pub begin_read : (all : List Piece) (earlier : Context) (number : ℕ) (rows : List Row) (items : List (Option Item)) → earlier.in_iterator ≡ in_iterator items → IsReadTo all all earlier earlier number rows rows items
-begin_read all earlier number rows items inside = record {
+pub begin_read : (all : List Piece) (earlier : LineReader) (number : ℕ) (rows : List Row) (items : List (Option Item)) → HasRead earlier items → IsReadTo all all earlier earlier number rows rows items
+begin_read all earlier number rows items read = record {
   parts = [];
   grows = sym (append-nil rows);
   goes_on = λ more are. are;
-  inside = inside;
+  read = read;
 }
 
 -- ONE PIECE MORE
@@ -29,20 +29,18 @@ pub items_append : (items : List (Option Item)) (rs : List Row) (r : Row) → it
 items_append items [] r = refl
 items_append items (s ∷ rs) r = items_append (s.item ∷ items) rs r
 
-pub read_row : (all rest : List Piece) (p : Piece) (earlier before now : Context) (number : ℕ) (rows middle grown : List Row) (items : List (Option Item))
+pub read_row : (all rest : List Piece) (p : Piece) (earlier before now : LineReader) (number : ℕ) (rows middle grown : List Row) (items : List (Option Item))
     → before.words ≡ earlier.words → IsRowAdded before now number p.tokens p.behind middle grown
     → IsReadTo all (p ∷ rest) earlier before number rows middle items → IsReadTo all rest earlier now number rows grown items
 read_row all rest p earlier before now number rows middle grown items words added known =
     let behind = items_append items known.parts added.row in
-    let make : ContextualWords → Bool → Context = λ w b. record { words = w; in_iterator = b } in
-    let c : context_behind earlier.words (items_behind items known.parts) ≡ before = ap (λ w. make w (in_iterator (items_behind items known.parts))) (sym words) ∙ ap (λ b. make before.words b) (sym known.inside) in
     record {
       parts = known.parts ++ added.row ∷ [];
       grows = added.grows ∙ ap (λ rs. rs ++ added.row ∷ []) known.grows ∙ append_assoc rows known.parts (added.row ∷ []);
       goes_on = λ more are. subst (λ rs. ArePieceRows earlier.words number items all rs) (sym (append_assoc known.parts (added.row ∷ []) more))
           (known.goes_on (added.row ∷ more)
-          (added.line, added.stands, subst (λ d. Spells d p.tokens added.row.item) (sym c) added.spells, subst (λ is. ArePieceRows earlier.words number is rest more) behind are));
-      inside = added.inside ∙ ap (λ b. keeps_in_iterator added.row.item b) known.inside ∙ ap in_iterator (sym behind);
+          (added.line, added.stands, subst (λ w. Spells (context_behind w (items_behind items known.parts)) p.tokens added.row.item) words (added.spells (items_behind items known.parts) known.read), subst (λ is. ArePieceRows earlier.words number is rest more) behind are));
+      read = subst (λ is. HasRead now is) (sym behind) (added.read (items_behind items known.parts) known.read);
     }
 
 not_none : (n : ℕ) → false ≡ (suc n == 0)
@@ -81,26 +79,26 @@ next_kept from us found first out =
     ap (λ ps. kept from ps) first.cuts ∙ kept_in from (piece (take found.length us) found.behind) (cut_behind found.behind (drop found.length us)) (left_out_by_length from us found first.within ∙ out)
 
 -- Such pieces were read, whatever items stand before the line.
-abbrev pub AreReadTo : List Piece → List Piece → Context → Context → ℕ → List Row → List Row → Type 0
-AreReadTo all rest earlier now number rows grown = (items : List (Option Item)) → earlier.in_iterator ≡ in_iterator items → IsReadTo all rest earlier now number rows grown items
+abbrev pub AreReadTo : List Piece → List Piece → LineReader → LineReader → ℕ → List Row → List Row → Type 0
+AreReadTo all rest earlier now number rows grown = (items : List (Option Item)) → HasRead earlier items → IsReadTo all rest earlier now number rows grown items
 
-pub read_left_out : (all : List Piece) (from : Joint) (us : List Token) (found : Found) (earlier before now : Context) (number : ℕ) (rows middle grown : List Row)
+pub read_left_out : (all : List Piece) (from : Joint) (us : List Token) (found : Found) (earlier before now : LineReader) (number : ℕ) (rows middle grown : List Row)
     → FirstPiece (before_behind from) us found → is_left_out from found ≡ true → now ≡ before → grown ≡ middle
     → AreReadTo all (pieces_from from us) earlier before number rows middle → AreReadTo all (left_behind found us) earlier now number rows grown
-read_left_out all from us found earlier before now number rows middle grown first out same_context same_rows known = λ items inside.
-    subst (λ d. IsReadTo all (left_behind found us) earlier d number rows grown items) (sym same_context)
+read_left_out all from us found earlier before now number rows middle grown first out same_reader same_rows known = λ items inside.
+    subst (λ d. IsReadTo all (left_behind found us) earlier d number rows grown items) (sym same_reader)
     (subst (λ rs. IsReadTo all (left_behind found us) earlier before number rows rs items) (sym same_rows)
     (subst (λ ps. IsReadTo all ps earlier before number rows middle items) (next_left_out from us found first out) (known items inside)))
 
-pub read_kept : (all : List Piece) (from : Joint) (us ts : List Token) (found : Found) (earlier before added_context now : Context) (number : ℕ) (rows middle added_rows grown : List Row)
+pub read_kept : (all : List Piece) (from : Joint) (us ts : List Token) (found : Found) (earlier before added_reader now : LineReader) (number : ℕ) (rows middle added_rows grown : List Row)
     → FirstPiece (before_behind from) us found → is_left_out from found ≡ false → ts ≡ take found.length us → before.words ≡ earlier.words
-    → IsRowAdded before added_context number ts found.behind middle added_rows → now ≡ added_context → grown ≡ added_rows
+    → IsRowAdded before added_reader number ts found.behind middle added_rows → now ≡ added_reader → grown ≡ added_rows
     → AreReadTo all (pieces_from from us) earlier before number rows middle → AreReadTo all (left_behind found us) earlier now number rows grown
-read_kept all from us ts found earlier before added_context now number rows middle added_rows grown first out same words added same_context same_rows known = λ items inside.
+read_kept all from us ts found earlier before added_reader now number rows middle added_rows grown first out same words added same_reader same_rows known = λ items inside.
     read_row all (left_behind found us) (piece (take found.length us) found.behind) earlier before now number rows middle grown items words
-    (subst (λ d. IsRowAdded before d number (take found.length us) found.behind middle grown) (sym same_context)
-    (subst (λ rs. IsRowAdded before added_context number (take found.length us) found.behind middle rs) (sym same_rows)
-    (subst (λ vs. IsRowAdded before added_context number vs found.behind middle added_rows) same added)))
+    (subst (λ d. IsRowAdded before d number (take found.length us) found.behind middle grown) (sym same_reader)
+    (subst (λ rs. IsRowAdded before added_reader number (take found.length us) found.behind middle rs) (sym same_rows)
+    (subst (λ vs. IsRowAdded before added_reader number vs found.behind middle added_rows) same added)))
     (subst (λ ps. IsReadTo all ps earlier before number rows middle items) (next_kept from us found first out) (known items inside))
 
 -- THE NEXT PLACE
@@ -131,7 +129,7 @@ nothing_behind joint.Else us h = cc
 pub at_end : (found : Found) (us : List Token) → is_end found.behind ≡ true → left_behind found us ≡ []
 at_end found us h = nothing_behind found.behind (drop found.length us) h
 
-pub all_added : (all : List Token) (found : Found) (us : List Token) (earlier now : Context) (number : ℕ) (rows grown : List Row) → is_end found.behind ≡ true → now.words ≡ earlier.words
+pub all_added : (all : List Token) (found : Found) (us : List Token) (earlier now : LineReader) (number : ℕ) (rows grown : List Row) → is_end found.behind ≡ true → now.words ≡ earlier.words
     → AreReadTo (pieces_from joint.End all) (left_behind found us) earlier now number rows grown → ArePiecesAdded earlier now number all rows grown
 all_added all found us earlier now number rows grown h words known = record {
   words = words;
@@ -142,7 +140,7 @@ all_added all found us earlier now number rows grown h words known = record {
         parts = read.parts;
         grows = read.grows;
         are = subst (λ rs. ArePieceRows earlier.words number items (pieces_from joint.End all) rs) (append-nil read.parts) (read.goes_on [] tt);
-        inside = read.inside;
+        read = read.read;
       };
 }
 

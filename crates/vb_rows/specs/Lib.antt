@@ -1,6 +1,9 @@
 pub mod Pieces
 pub mod Cutting
 pub mod Rows
+pub mod Production
+pub mod Stacks
+pub mod Tracking
 pub mod Reading
 pub mod Files
 pub mod FileReading

@@ -1,52 +1,44 @@
 -- Which rows stand on a logical line, and which of them are of the grammar (Visual Basic Language Specification 11.0, 1.1, 10.1 and
 -- 10.8.1).
-use Rattle.std.specs.Prelude.{◌≡◌, ℕ, ◌+◌, ◌-◌, nat_lt, Bool, true, false, ◌&&◌, ◌||◌, not, if◌then◌else◌, List, [], ◌∷◌, ◌++◌, Option, Some, None}
+use Rattle.std.specs.Prelude.{◌≡◌, ℕ, ◌+◌, ◌-◌, nat_lt, Bool, true, false, ◌&&◌, ◌||◌, not, if◌then◌else◌, List, [], ◌∷◌, ◌++◌, reverse, slice_index_or, Option, Some, None}
 use Rattle.vb_text.specs.declared.names.Name.{Name}
-use Rattle.vb_syntax.specs.{declared.{tokens.{Token.Token, Line.Line}, declaration.{Modifier.Modifier, FunctionKind.FunctionKind}, item.{BlockWord.BlockWord, DeclarationLine.DeclarationLine, Joint.Joint, Item.Item, Row.Row}, words.{Context.Context, ContextualWords.ContextualWords}}, Items.{is_simple, is_end, must_override}}
+use Rattle.vb_syntax.specs.{declared.{tokens.{Token.Token, Line.Line}, item.{Joint.Joint, Item.Item, Row.Row}, words.{Context.Context, ContextualWords.ContextualWords}}, Items.{is_simple, is_end}}
 use Rattle.vb_syntax.specs.declared.declaration.FunctionKind.TheVariants as function
-use Rattle.vb_syntax.specs.declared.item.BlockWord.TheVariants as block
 use Rattle.vb_syntax.specs.declared.item.DeclarationLine.TheVariants as line
 use Rattle.vb_syntax.specs.declared.item.Joint.TheVariants as joint
 use Rattle.vb_syntax.specs.declared.item.Item.TheVariants as item
+use Rattle.vb_ends.specs.{Enders.{Block, is_statement}, Roles.marks_of, OpenBlocks.open_blocks}
 use Rattle.vb_parse_stmt.specs.Items.{IsItem}
 use Rattle.vb_rows.specs.Pieces.{Piece, label_of, pieces_of}
 
 -- THE BODY OF AN ITERATOR (10.15)
 
--- behind the header of a function: whether it is that of an iterator with a body
-abbrev pub begins_iterator : List Modifier → FunctionKind → Bool
-begins_iterator ms function.Iterator = not (must_override ms)
-begins_iterator ms k = false
+-- The row of an item that is taken to stand alone. An `If` on one line and what may stand in it are statements, which tell nothing here; with
+-- the header or the end of a procedure in it the line is refused, whatever is read behind.
+abbrev pub alone : Option Item → Row
+alone i = record { line = 0; item = i; behind = joint.End }
 
-abbrev pub keeps_behind_header : DeclarationLine → Bool → Bool
-keeps_behind_header (line.Function ms k s t is) inside = begins_iterator ms k
-keeps_behind_header (line.Sub ms s is) inside = false
-keeps_behind_header (line.Constructor ms ps is) inside = false
-keeps_behind_header (line.Get a) inside = false
-keeps_behind_header (line.Set a ps) inside = false
-keeps_behind_header (line.EventAccessor k ps) inside = false
-keeps_behind_header d inside = inside
+abbrev pub all_alone : List (Option Item) → List Row
+all_alone [] = []
+all_alone (i ∷ before) = alone i ∷ all_alone before
 
-abbrev pub keeps_behind_end : BlockWord → Bool → Bool
-keeps_behind_end block.Sub inside = false
-keeps_behind_end block.Function inside = false
-keeps_behind_end block.Get inside = false
-keeps_behind_end block.Set inside = false
-keeps_behind_end block.AddHandler inside = false
-keeps_behind_end block.RemoveHandler inside = false
-keeps_behind_end block.RaiseEvent inside = false
-keeps_behind_end b inside = inside
+-- the blocks that are open behind the items, the innermost first (7, 9 and 10); the items are listed from the end
+abbrev pub blocks_behind : List (Option Item) → List Block
+blocks_behind before = open_blocks (marks_of None (all_alone before))
 
-abbrev pub keeps_in_iterator : Option Item → Bool → Bool
-keeps_in_iterator (Some (item.Declares d)) inside = keeps_behind_header d inside
-keeps_in_iterator (Some (item.End b)) inside = keeps_behind_end b inside
-keeps_in_iterator i inside = inside
+-- the header of an iterator
+abbrev pub is_iterator : Option Item → Bool
+is_iterator (Some (item.Declares (line.Function ms function.Iterator s t is))) = true
+is_iterator i = false
 
--- `Yield` is a word behind the header of an iterator with a body, up to the next header or end of a procedure or an accessor.
--- The items are listed from the end.
+-- Of these blocks, which the items open, the innermost that is no statement is an iterator.
+abbrev pub is_in_iterator : List (Option Item) → List Block → Bool
+is_in_iterator before [] = false
+is_in_iterator before (b ∷ bs) = if is_statement b.sort then is_in_iterator before bs else is_iterator (slice_index_or (reverse before) b.place None)
+
+-- `Yield` is a word in the body of an iterator: behind these items, the innermost open block that is no statement is one.
 abbrev pub in_iterator : List (Option Item) → Bool
-in_iterator [] = false
-in_iterator (i ∷ before) = keeps_in_iterator i (in_iterator before)
+in_iterator before = is_in_iterator before (blocks_behind before)
 
 -- the items behind which a further one stands, from the end: these, and then those of rows
 abbrev pub items_behind : List (Option Item) → List Row → List (Option Item)
@@ -105,10 +97,10 @@ abbrev pub label_rows : ℕ → Option Name → List Row
 label_rows number None = []
 label_rows number (Some n) = record { line = number; item = Some (item.Label n); behind = joint.End } ∷ []
 
--- The rows are those of the line, behind these items.
+-- The rows are those of the line, behind these items. A label stands before the others.
 pub record AreLineRows (words : ContextualWords) (before : List (Option Item)) (line : Line) (rows : List Row) : Type 0 where
   pub parts : List Row
-  pub are : ArePieceRows words line.number before (pieces_of line.tokens) parts
+  pub are : ArePieceRows words line.number (items_behind before (label_rows line.number (label_of line.tokens))) (pieces_of line.tokens) parts
   pub joined_are : rows ≡ label_rows line.number (label_of line.tokens) ++ joined false parts
 
 -- OF THE GRAMMAR (1.1 and 10.8.1)

@@ -2,10 +2,9 @@
 ghost use Rattle.std.specs.Prelude.{◌≡◌, ◌≤◌, IfOk, length, slice_range};
 ghost use Rattle.vb_rows.specs.Rows.{Spells};
 
-use sqlite_items::Items;
 use std::alloc::{AllocError, Global};
 use vb_parse_stmt::{ParseErr, parse_stmt};
-use vb_syntax::{Context, Item, Line, Token};
+use vb_syntax::{Context, Item, Items, Line, Token};
 
 // What stands on a line, or on a part of it; none where nothing of the grammar does. The error is want of memory.
 fn item_of(alloc: Global, context: &Context, line: &Line) -> Result<Option<Item>, AllocError>

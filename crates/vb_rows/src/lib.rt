@@ -7,15 +7,16 @@
 //! Assumed: nothing but memory.
 #![tactic(auto)]
 
-mod brackets;
+mod depths;
 mod files;
 mod items;
-mod iterators;
 mod joints;
 mod laws;
 mod lines;
+mod open_blocks;
 mod pieces;
 mod places;
+mod stack;
 
 pub use files::{FileRows, read_rows};
-pub use laws::one_list_of_rows;
+pub use laws::{in_place_as_produced, one_list_of_rows};

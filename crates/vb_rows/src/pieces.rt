@@ -33,10 +33,10 @@ pub fn is_colon(token: &Token) -> bool
 fn parts_at_else(before: Before, token: &Token) -> bool
     ensures { result ≡ spec.parts_at_else before token.now }
 {
-    match (before, token) {
-        (Before::Other, Token::Keyword(Keyword::Else)) => true,
-        _ => false,
-    }
+    matches!(
+        (before, token),
+        (Before::Other, Token::Keyword(Keyword::Else))
+    )
 }
 
 fn goes_on_in_part(tokens: &[Token]) -> bool

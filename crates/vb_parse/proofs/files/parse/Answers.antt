@@ -1,7 +1,7 @@
 use Rattle.std.proofs.Common.{◌≡◌, Err}
 use Rattle.vb_parse_expr.specs.declared.error.ParseErr.TheVariants as failure
 use Rattle.vb_tree.specs.declared.tree.BuildErr.TheVariants as build
-use Rattle.vb_parse.specs.Broken.{IsLeastOf}
+use Rattle.vb_diag.specs.Broken.{InFile, IsLeast}
 use Rattle.vb_parse.specs.Rules.{BreaksLines}
 use Rattle.vb_parse.proofs.Told.{least_judged, least_of_lines, only_memory, is_tree, is_alone, accepted, told_first}
 use Rattle.vb_parse.proofs.files.parse.Goals as goal
@@ -16,13 +16,13 @@ unless_broken-requires c =
     let front = c.built_front-built.ensures.front in
     let cut = c.built_front-built.ensures.is_front in
     let is_built = c.built_front-built.ensures.is_built in
-    let judged = least_judged words lines found.rows found.brackets facts.rows facts.alone facts.brackets
-    found.refusal c.told_by.result c.in_ok-judged.judged c.lesser-judged.result c.as_slice.result.now c.as_slice-2.result.now
-    facts.refusal c.told_by.ensures c.as_slice.ensures c.as_slice-2.ensures c.in_ok-judged.ensures c.lesser-judged.ensures in
-    let least : (built ≡ Err build.Memory → ⊥) → IsLeastOf (BreaksLines words lines) c.lesser-least.result =
-    least_of_lines words lines found.rows found.brackets facts.rows facts.alone facts.brackets c.args.file front built is_built c.lesser-judged.result judged cut
-    c.misplaced_in.result c.broken_at.result c.lesser-least.result c.misplaced_in.ensures c.broken_at.ensures c.lesser-least.ensures in
-    only_memory words lines found.rows found.brackets facts.rows facts.alone facts.brackets c.args.file front built is_built c.lesser-judged.result judged cut
+    let judged = least_judged c.args.file words lines found.rows found.depths facts.rows facts.alone facts.depths
+    found.refusal c.in_ok-judged.judged c.lesser-judged.result c.as_slice.result.now c.as_slice-2.result.now
+    facts.refusal c.as_slice.ensures c.as_slice-2.ensures c.in_ok-judged.ensures c.lesser-judged.ensures in
+    let least : (built ≡ Err build.Memory → ⊥) → IsLeast (InFile c.args.file (BreaksLines words lines)) c.lesser-least.result =
+    least_of_lines c.args.file words lines found.rows found.depths facts.rows facts.alone facts.depths front built is_built c.lesser-judged.result judged cut
+    c.misplaced_in.result c.broken.result c.lesser-least.result c.misplaced_in.ensures c.broken.ensures c.lesser-least.ensures in
+    only_memory c.args.file words lines found.rows found.depths facts.rows facts.alone facts.depths front built is_built c.lesser-judged.result judged cut
     c.open_blocks_break.ensures c.lesser-least.result least
 
 pub returns : goal.returns
@@ -36,20 +36,19 @@ returns c =
     let cut = c.built_front-built.ensures.is_front in
     let is_built = c.built_front-built.ensures.is_built in
     let kept = c.unless_broken.ensures in
-    let judged = least_judged words lines found.rows found.brackets facts.rows facts.alone facts.brackets
-    found.refusal c.told_by.result c.in_ok-judged.judged c.lesser-judged.result c.as_slice.result.now c.as_slice-2.result.now
-    facts.refusal c.told_by.ensures c.as_slice.ensures c.as_slice-2.ensures c.in_ok-judged.ensures c.lesser-judged.ensures in
-    let least : (built ≡ Err build.Memory → ⊥) → IsLeastOf (BreaksLines words lines) c.lesser-least.result =
-    least_of_lines words lines found.rows found.brackets facts.rows facts.alone facts.brackets c.args.file front built is_built c.lesser-judged.result judged cut
-    c.misplaced_in.result c.broken_at.result c.lesser-least.result c.misplaced_in.ensures c.broken_at.ensures c.lesser-least.ensures in
-    let tree = is_tree words lines found.rows found.brackets facts.rows facts.alone facts.brackets c.args.file front built is_built c.lesser-judged.result judged cut
+    let judged = least_judged c.args.file words lines found.rows found.depths facts.rows facts.alone facts.depths
+    found.refusal c.in_ok-judged.judged c.lesser-judged.result c.as_slice.result.now c.as_slice-2.result.now
+    facts.refusal c.as_slice.ensures c.as_slice-2.ensures c.in_ok-judged.ensures c.lesser-judged.ensures in
+    let least : (built ≡ Err build.Memory → ⊥) → IsLeast (InFile c.args.file (BreaksLines words lines)) c.lesser-least.result =
+    least_of_lines c.args.file words lines found.rows found.depths facts.rows facts.alone facts.depths front built is_built c.lesser-judged.result judged cut
+    c.misplaced_in.result c.broken.result c.lesser-least.result c.misplaced_in.ensures c.broken.ensures c.lesser-least.ensures in
+    let tree = is_tree c.args.file words lines found.rows found.depths facts.rows facts.alone facts.depths front built is_built c.lesser-judged.result judged cut
     c.lesser-least.result c.unless_broken.result least kept.kept in
     record {
       tree = tree;
-      alone = is_alone words lines found.rows found.brackets facts.rows facts.alone facts.brackets c.args.file front built is_built c.lesser-judged.result judged cut c.unless_broken.result c.one_tree.ensures tree;
-      sound = accepted words lines c.lesser-least.result built failure.Memory c.unless_broken.result least kept.kept;
+      alone = is_alone c.args.file words lines found.rows found.depths facts.rows facts.alone facts.depths front built is_built c.lesser-judged.result judged cut c.unless_broken.result c.one_tree.ensures tree;
+      sound = accepted c.args.file words lines c.lesser-least.result built c.unless_broken.result least kept.kept;
       refused = λ r is.
-          let told = kept.refused r is in
           let differ : failure.Refused r ≡ failure.Memory → ⊥ = λ e. cc in
-          (told.0, told_first words lines c.lesser-least.result built failure.Memory (failure.Refused r) c.unless_broken.result r.line r.rule least kept.memory is differ told.1);
+          told_first c.args.file words lines c.lesser-least.result built failure.Memory (failure.Refused r) c.unless_broken.result r least kept.memory is differ (kept.refused r is);
     }
