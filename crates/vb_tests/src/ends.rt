@@ -1,6 +1,6 @@
 // In which line a block has no end or an end no block, and which row stands too deep.
 
-use crate::read::{ALONE, Reader, check, file_of, lexed, told};
+use crate::read::{ALONE, FILE, Reader, check, file_of, lexed, told};
 use crate::rows::read;
 use crate::words_of;
 use std::alloc::{AllocError, Global};
@@ -119,7 +119,7 @@ const BLOCKS: [(&str, &str); 14] = [
 ];
 
 // Members of classes and interfaces.
-const MEMBERS: [(&str, &str); 19] = [
+const MEMBERS: [(&str, &str); 21] = [
     ("Class a / MustOverride Sub b / End Class", "fine"),
     (
         "Class a / MustOverride Function b() As c / End Class",
@@ -160,8 +160,16 @@ const MEMBERS: [(&str, &str); 19] = [
         "Interface a / Iterator Function b() As c / End Function",
         "1",
     ),
-    // Behind what stands in no interface, a header is no longer directly in it.
-    ("Interface a / Return / Sub b / End Interface", "3"),
+    // A header stands directly in the innermost block, whatever else stands there.
+    ("Interface a / Return / Sub b / End Interface", "fine"),
+    (
+        "Interface a / Imports b : Function c() As d / End Interface",
+        "fine",
+    ),
+    (
+        "Interface a / Class b / Function c() As d / End Class / End Interface",
+        "3",
+    ),
     // A property opens a block before an accessor.
     (
         "Property a As b / Property a As b / Get / End Get / End Property",
@@ -212,7 +220,7 @@ fn rows_of(alloc: Global, file: &str) -> Result<FileRows, AllocError> {
     let Ok(lines) = lexed(alloc, file.as_bytes(), &mut names) else {
         return Err(AllocError);
     };
-    read_rows(alloc, &words, lines.as_slice())
+    read_rows(alloc, &words, FILE, lines.as_slice())
 }
 
 // The line of the first row that stands too deep, where the rows have these brackets.

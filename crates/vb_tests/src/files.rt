@@ -2,10 +2,10 @@
 
 use crate::read::{ALONE, CLASS, PARSED, Reader, SUB, check, file_of, lexed, told};
 use crate::words_of;
-use sqlite_items::Items;
+use std::alloc::{AllocError, Global};
 use std::test::Fail;
 use vb_parse::parse;
-use vb_syntax::{MemberForm, SourceFile, Statement, TypeForm};
+use vb_syntax::{Items, MemberForm, SourceFile, Statement, TypeForm};
 use vb_text::NameTable;
 
 // Lines of a subroutine.
@@ -121,14 +121,14 @@ const PLACES_IN_CLASSES: [(&str, &str); 12] = [
     ("Get / End Get", "V034 at 2"),
     ("RaiseEvent() / End RaiseEvent", "V034 at 2"),
     (
-        "Custom Event e As a / AddHandler(b As a) / End AddHandler / End Event",
+        "Custom Event e As a / AddHandler(b As a) / End AddHandler / AddHandler(b As a) / End AddHandler / End Event",
         "V034 at 5",
     ),
     ("Class d / End Class", "V034 at 2"),
 ];
 
 // Lines of a file, of which one can't stand where it is.
-const PLACES_IN_FILES: [(&str, &str); 11] = [
+const PLACES_IN_FILES: [(&str, &str); 12] = [
     ("x = 1", "V034 at 1"),
     ("Module m / x = 1 / End Module", "V034 at 2"),
     ("Module m / Class c / End Class / End Module", "V034 at 2"),
@@ -148,6 +148,10 @@ const PLACES_IN_FILES: [(&str, &str); 11] = [
     (
         "Interface i / Sub s() / Inherits a / End Interface",
         "V034 at 3",
+    ),
+    (
+        "Interface i / Imports a : Function f() As b / End Interface",
+        "V034 at 2",
     ),
 ];
 
@@ -179,7 +183,7 @@ const SEVERAL: [(&str, &str); 13] = [
 ];
 
 // Whole files.
-const WHOLE: [(&str, &str); 8] = [
+const WHOLE: [(&str, &str); 9] = [
     ("Module m / End Module", "fine"),
     (
         "Option Strict On / Imports a / Module m / End Module / Class c / End Class / Delegate Sub d()",
@@ -191,6 +195,10 @@ const WHOLE: [(&str, &str); 8] = [
     ),
     (
         "Class c / MustOverride Sub s() / Custom Event e As a / RaiseEvent() / End RaiseEvent / AddHandler(b As a) / End AddHandler / RemoveHandler(b As a) / End RemoveHandler / End Event / End Class",
+        "fine",
+    ),
+    (
+        "Class c / Custom Event e As a / AddHandler(b As a) / End AddHandler / End Event / Custom Event f As a / End Event / End Class",
         "fine",
     ),
     (
@@ -241,18 +249,45 @@ const BRACKETS: [(&str, usize, &str, &str); 7] = [
     ("Case ", 99, "", "V033 at 3"),
 ];
 
+// So many tests of `If`s on one line, between what stands before and behind in a subroutine.
+const TESTS: [(&str, usize, &str, &str); 8] = [
+    ("", 98, "x = 1", "fine"),
+    ("", 99, "x = 1", "V033 at 3"),
+    ("", 1_300, "x = 1", "V033 at 3"),
+    ("", 97, "x = (1)", "fine"),
+    ("", 98, "x = (1)", "V033 at 3"),
+    ("While a / ", 97, "x = 1 / End While", "fine"),
+    ("While a / ", 98, "x = 1 / End While", "V033 at 4"),
+    // The `Then` of a block has nothing behind it in its line, or a colon.
+    ("If a Then : x = (1) : End If / ", 98, "x = 1", "fine"),
+];
+
+// What is told of a row of these tables: what opens is repeated, and what closes behind the middle.
+fn deep(
+    alloc: Global,
+    nest: (&'static str, &'static str, &'static str),
+    row: (&'static str, usize, &'static str, &'static str),
+) -> Result<String, AllocError> {
+    let (before, count, behind, _) = row;
+    let mut text = String::from_str(alloc, before)?;
+    text.push_str(&nest.0.repeat(alloc, count)?)?;
+    text.push_str(nest.1)?;
+    text.push_str(&nest.2.repeat(alloc, count)?)?;
+    text.push_str(behind)?;
+    let file = file_of(alloc, SUB, &text)?;
+    told(alloc, Reader::File, &file)
+}
+
 #[test]
 fn blocks_and_brackets_are_no_deeper(rt: HostRuntime) -> Result<(), Fail> {
     let alloc = rt.alloc();
-    for (before, count, behind, wanted) in BRACKETS {
-        let mut text = String::from_str(alloc, before)?;
-        text.push_str(&"(".repeat(alloc, count)?)?;
-        text.push_str("1")?;
-        text.push_str(&")".repeat(alloc, count)?)?;
-        text.push_str(behind)?;
-        let file = file_of(alloc, SUB, &text)?;
-        let seen = told(alloc, Reader::File, &file)?;
-        assert_eq!(rt; seen.as_str(), wanted, "{before}{count}{behind}");
+    for row in BRACKETS {
+        let seen = deep(alloc, ("(", "1", ")"), row)?;
+        assert_eq!(rt; seen.as_str(), row.3, "{}{}{}", row.0, row.1, row.2);
+    }
+    for row in TESTS {
+        let seen = deep(alloc, ("If a Then ", "", ""), row)?;
+        assert_eq!(rt; seen.as_str(), row.3, "{}{}{}", row.0, row.1, row.2);
     }
     Ok(())
 }

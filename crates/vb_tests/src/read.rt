@@ -205,7 +205,7 @@ fn tell_read_rows(
 ) -> Result<(), AllocError>
     requires { OptionsApart words.now }
 {
-    let found = read_rows(*out.allocator(), words, lines)?;
+    let found = read_rows(*out.allocator(), words, FILE, lines)?;
     let done = tell_rows(out, names, &found);
     drop(found);
     done
@@ -223,7 +223,7 @@ fn tell_ends(out: &mut String, words: &ContextualWords, lines: &[Line]) -> Resul
     requires { OptionsApart words.now }
 {
     let alloc = *out.allocator();
-    let found = read_rows(alloc, words, lines)?;
+    let found = read_rows(alloc, words, FILE, lines)?;
     let first = first_unended(alloc, found.rows.as_slice());
     drop(found);
     tell_first(out, first?)
@@ -242,7 +242,7 @@ fn tell_tree(out: &mut String, words: &ContextualWords, lines: &[Line]) -> Resul
     requires { OptionsApart words.now }
 {
     let alloc = *out.allocator();
-    let FileRows { rows, .. } = read_rows(alloc, words, lines)?;
+    let FileRows { rows, .. } = read_rows(alloc, words, FILE, lines)?;
     let answer = build(alloc, FILE, rows);
     let done = tell_built(out, &answer);
     drop(answer);

@@ -2,11 +2,10 @@
 
 use crate::read::{FILE, Reader, SEVENTH, check, lexed, tell_rows};
 use crate::words_of;
-use sqlite_items::Items;
 use std::alloc::{AllocError, Global};
 use std::test::Fail;
 use vb_rows::{FileRows, read_rows};
-use vb_syntax::Lines;
+use vb_syntax::{Items, Lines};
 use vb_text::NameTable;
 
 // Lines of the grammar with colons or an `Else`.
@@ -75,7 +74,7 @@ const BROKEN: [(&str, &str); 15] = [
 ];
 
 // Several lines.
-const FILES: [(&str, &str); 6] = [
+const FILES: [(&str, &str); 8] = [
     ("", "fine"),
     ("x / : y / z = 1 :", "run [x]. run [y]. [z] gets [1]. fine"),
     (
@@ -93,6 +92,14 @@ const FILES: [(&str, &str); 6] = [
     (
         "Iterator Function a() As Integer / Sub b() / Yield 1",
         "iterator function a as Integer. sub b. none. V030 at 9",
+    ),
+    (
+        "Class c / Iterator Function a() As Integer / End Sub / Yield 1",
+        "class c. iterator function a as Integer. end Sub. yield [1]. fine",
+    ),
+    (
+        "Iterator Function a() As Integer / While b / Yield 1 / End While / Yield 2",
+        "iterator function a as Integer. while [b]. yield [1]. end While. yield [2]. fine",
     ),
 ];
 
@@ -141,7 +148,7 @@ pub fn read(
     for (number, text) in numbered {
         add_line(alloc, names, &mut lines, *number, text)?;
     }
-    read_rows(alloc, &words, lines.as_slice())
+    read_rows(alloc, &words, FILE, lines.as_slice())
 }
 
 const UNORDERED: [(u32, &str); 3] = [(9, "x ="), (8, "Date"), (8, "x =")];
@@ -157,23 +164,30 @@ fn the_least_line_is_refused(rt: HostRuntime) -> Result<(), Fail> {
     Ok(())
 }
 
-const BRACKETS: [(u32, &str); 3] = [
+const NESTED: [(u32, &str); 4] = [
     (7, "a : x = (1) : y = ((1))"),
     (8, "y(z(((1))))"),
+    (8, "If (a) Then If b Then x = (1) Else y()"),
     (9, ")(}{{ Date ) : x()"),
 ];
 
 #[test]
-fn brackets_are_counted_by_row(rt: HostRuntime) -> Result<(), Fail> {
+fn nesting_is_counted_by_row(rt: HostRuntime) -> Result<(), Fail> {
     let alloc = rt.alloc();
     let mut names = NameTable::new(alloc)?;
-    let found = read(alloc, &mut names, &BRACKETS)?;
-    assert_eq!(rt; found.brackets.as_slice(), [0, 1, 2, 4, 2, 1].as_slice());
+    let found = read(alloc, &mut names, &NESTED)?;
+    assert_eq!(rt;
+        found.depths.as_slice(),
+        [0, 1, 2, 4, 1, 1, 3, 3, 2, 1].as_slice()
+    );
     let mut numbers = Items::new(alloc);
     for row in found.rows.as_slice() {
         numbers.push(row.line)?;
     }
-    assert_eq!(rt; numbers.as_slice(), [7, 7, 7, 8, 9, 9].as_slice());
+    assert_eq!(rt;
+        numbers.as_slice(),
+        [7, 7, 7, 8, 8, 8, 8, 8, 9, 9].as_slice()
+    );
     let refusal = found.refusal.ok_or("fine")?;
     assert_eq!(rt;
         (refusal.file, refusal.line, refusal.rule.number()),

@@ -4,10 +4,13 @@ use crate::read::{Reader, SEVENTH, check};
 use std::test::Fail;
 
 // Lines of the front of a file, headers, ends and declarations.
-const DECLARED: [(&str, &str); 18] = [
+const DECLARED: [(&str, &str); 20] = [
     ("Option Strict", "option Strict(On)"),
     ("Option Compare Text", "option CompareText"),
     ("Option Strict Strict", "V030 at 7"),
+    // Words that are words in some places alone are so in any ASCII case, and in no other letters.
+    ("OPTION STRICT ON", "option Strict(On)"),
+    ("Option ſtrict", "V030 at 7"),
     ("Imports a.b, c", "imports .a.b .c"),
     ("Imports 1", "V030 at 7"),
     ("Imports a.", "V030 at 7"),
@@ -54,7 +57,7 @@ const SIMPLE: [(&str, &str); 17] = [
     ("Yield = 1", "V030 at 7"),
 ];
 
-const JUMPS: [(&str, &str); 24] = [
+const JUMPS: [(&str, &str); 29] = [
     ("GoTo a", "goto a"),
     ("GoTo", "V030 at 7"),
     ("Exit Sub", "exit Sub"),
@@ -65,7 +68,13 @@ const JUMPS: [(&str, &str); 24] = [
     ("On Error GoTo 0", "on error none"),
     ("On Error GoTo -1", "on error forget"),
     ("On Error Resume Next", "on error next"),
+    // The literals stand there as they are written: one decimal digit.
     ("On Error GoTo 2", "V030 at 7"),
+    ("On Error GoTo &H0", "V030 at 7"),
+    ("On Error GoTo 00", "V030 at 7"),
+    ("On Error GoTo 0L", "V030 at 7"),
+    ("On Error GoTo -&O1", "V030 at 7"),
+    ("On Error GoTo -01", "V030 at 7"),
     ("Resume", "resume"),
     ("Resume Next", "resume next"),
     ("Resume a", "resume at a"),

@@ -1,11 +1,10 @@
 // What is told of names, tokens, logical lines and refusals.
 
-use sqlite_items::Items;
 use std::alloc::AllocError;
 use vb_diag::Refusal;
 use vb_lexer::LexErr;
 use vb_parse::ParseErr;
-use vb_syntax::{Line, Token};
+use vb_syntax::{Items, Line, Token};
 use vb_text::{Name, NameTable};
 
 // The names in the rows of all readers but the lexer.

@@ -2,11 +2,10 @@
 
 use crate::tell::{tell_name, tell_named};
 use crate::tell_expressions::{tell_all, tell_expr, tell_initializer, tell_simple_type, tell_type};
-use sqlite_items::Items;
 use std::alloc::AllocError;
 use vb_syntax::{
     Access, ClassModifier, DeclarationLine, Declarator, DelegateKind, EventAccessorKind,
-    EventHandler, FunctionKind, ImplementedMember, MethodSignature, Modifier, NameModifier,
+    EventHandler, FunctionKind, ImplementedMember, Items, MethodSignature, Modifier, NameModifier,
     Parameter, PassedBy, PropertyHeader, PropertyKind, TypeConstraint, TypeName, TypeParameter,
     VariableIdentifier, VariableInitializer, VariableModifier,
 };

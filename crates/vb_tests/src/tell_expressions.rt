@@ -1,10 +1,9 @@
 // What is told of the names of types and of expressions.
 
 use crate::tell::{tell_name, tell_named, tell_parts};
-use sqlite_items::Items;
 use std::alloc::AllocError;
 use vb_syntax::{
-    BinaryOperator, BuiltInTypeName, Expr, RelationalOperator, SimpleTypeName, TypeName,
+    BinaryOperator, BuiltInTypeName, Expr, Items, RelationalOperator, SimpleTypeName, TypeName,
     UnaryOperator, VariableInitializer,
 };
 use vb_text::{NameTable, Text};

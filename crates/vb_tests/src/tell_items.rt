@@ -3,10 +3,9 @@
 use crate::tell::{tell_name, tell_named, tell_parts};
 use crate::tell_declarations::{tell_declaration, tell_declarators};
 use crate::tell_expressions::{relation_sign, tell_all, tell_expr, tell_simple_type, tell_type};
-use sqlite_items::Items;
 use std::alloc::AllocError;
 use vb_syntax::{
-    CaseItem, CatchVariable, Expr, Item, LoopCondition, LoopControlVariable, OnErrorAction,
+    CaseItem, CatchVariable, Expr, Item, Items, LoopCondition, LoopControlVariable, OnErrorAction,
     ResumePlace, UsingResource,
 };
 use vb_text::{Name, NameTable};
@@ -180,7 +179,7 @@ pub fn tell_item(out: &mut String, names: &mut NameTable, found: &Item) -> Resul
     match found {
         Item::Option(setting) => write!(out, "option {setting:?}"),
         Item::Imports(spaces) => tell_spaces(out, names, spaces),
-        Item::Declares(line) => tell_declaration(out, names, line),
+        Item::Declares(line) => tell_declaration(out, names, line.get()),
         Item::End(word) => write!(out, "end {word:?}"),
         Item::Label(name) => tell_named(out, names, "label ", *name),
         Item::Declaration(modifier, all) => {

@@ -1,30 +1,17 @@
 -- The parts of the whole call.
 use Rattle.std.proofs.Common.{◌≡◌, ◌⊎◌, inl, inr, ℕ, ◌<◌, ◌≤◌, Bool, true, false, List, [], ◌++◌, length, Option, Some, None, refl, sym, ap, subst, ◌∙◌, arith}
 use Rattle.std.proofs.KnownBytes.{Keeps-refl}
-use Rattle.vb_io.specs.Causes.{Rose}
-use Rattle.vb_io.specs.Files.{Files, file_of, OfTold, Loads}
-use Rattle.vb_io.specs.declared.LoadErr.{LoadErr}
-use Rattle.vb_io.specs.declared.LoadErr.TheVariants.{Failed}
+use Rattle.vb_io.specs.{Causes.Rose, Files.{Files, file_of, OfTold, Loads}, declared.LoadErr.{LoadErr, TheVariants.Failed}}
 use Rattle.std.specs.Prelude.{Err, nat_le}
 use Rattle.std.proofs.lemmas.Bool.Decides.{nat_tests}
-use Rattle.vb_value.specs.declared.stop.Stop.TheVariants.{Ended, Uncaught, HeapLimit, TurnLimit, WriteFault, Memory as NoMemory}
-use Rattle.vb_value.specs.declared.stop.Status.{Status}
-use Rattle.vb_value.specs.declared.stop.Status.TheVariants.{Write}
+use Rattle.vb_value.specs.declared.stop.{Stop.TheVariants.{Ended, Uncaught, HeapLimit, TurnLimit, WriteFault, Memory as NoMemory}, Status.{Status, TheVariants.Write}}
 use Rattle.vb_bound.specs.Tree.{Tree}
-use Rattle.vb_top.specs.declared.outcome.Answer.{Answer}
-use Rattle.vb_top.specs.declared.outcome.Answer.TheVariants.{Usage, Missing, TooLong, LoadFault, Refused, Memory, Stopped}
-use Rattle.vb_top.specs.declared.outcome.Report.{Report}
+use Rattle.vb_top.specs.{declared.outcome.{Answer.{Answer, TheVariants.{Usage, Missing, TooLong, LoadFault, Refused, Memory, Stopped}}, Report.Report}, Words.file_of_words, Programs.{IsProgram, LeastBroken}, Answers.{Tells, line_of, status_of}, Reports.RanProgram, Headline.{longest_file, Call, MayBe, IsLoaded, MayBeHad, Judged, IsReported, TellsRun, Built, Works, IsProper, Headline, Complete, call_of}}
 use Rattle.vb_lexer.proofs.Unique.{never_both}
-use Rattle.vb_top.specs.Words.{file_of_words}
-use Rattle.vb_syntax.specs.declared.tokens.Line.{Line}
-use Rattle.vb_syntax.specs.declared.words.ContextualWords.{ContextualWords}
+use Rattle.vb_syntax.specs.declared.{tokens.Line.Line, words.ContextualWords.ContextualWords}
 use Rattle.vb_bind.specs.Grammar.{widest}
 use Rattle.vb_parse.specs.Rules.{BreaksLines}
-use Rattle.vb_top.specs.Programs.{IsProgram, LeastBroken}
 use Rattle.vb_top.proofs.Compiled.{same_lines, is_wide}
-use Rattle.vb_top.specs.Answers.{Tells, line_of, status_of}
-use Rattle.vb_top.specs.Reports.{RanProgram}
-use Rattle.vb_top.specs.Headline.{longest_file, Call, MayBe, IsLoaded, MayBeHad, Judged, IsReported, TellsRun, Built, Works, IsProper, Headline, Complete, call_of}
 
 pub loaded : (words : List (List ℕ)) (told : Option Files) (file got items bytes : List ℕ) → file_of_words words ≡ Some file → got ≡ [] ++ bytes → items ≡ got → length bytes ≤ longest_file → OfTold told (λ files. file_of files file ≡ Some bytes) → IsLoaded words told file items
 loaded words told file got items bytes w e f len found =
@@ -43,10 +30,10 @@ refused_built bytes input old before said line rule report name broken (inr e) k
 
 -- a program breaks no rule
 sound_program : (bytes : List ℕ) (t : Tree) (line rule : ℕ) → IsProgram bytes t → LeastBroken bytes line rule → ⊥
-sound_program bytes t line rule p (inl breaks) = never_both p.parsed.read.names 0 bytes p.parsed.read.lines line rule p.parsed.read.lexed.lexed breaks
+sound_program bytes t line rule p (inl breaks) = never_both p.parsed.read.names 0 bytes p.parsed.read.lines line rule p.parsed.read.lexed.lexed breaks.0.1
 sound_program bytes t line rule p (inr (inl (read, least))) =
     let same = same_lines bytes read p.parsed.read in
-    let here : BreaksLines read.words p.parsed.read.lines line rule = subst (λ (ls : List Line). BreaksLines read.words ls line rule) same.0 least.broken in
+    let here : BreaksLines read.words p.parsed.read.lines line rule = subst (λ (ls : List Line). BreaksLines read.words ls line rule) same.0 least.0.1 in
     p.parsed.sound line rule (subst (λ (w : ContextualWords). BreaksLines w p.parsed.read.lines line rule) same.2 here)
 sound_program bytes t line rule p (inr (inr unbuilt)) = unbuilt.2 t p
 

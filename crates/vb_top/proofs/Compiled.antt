@@ -1,32 +1,21 @@
 -- The program of a file, or that there is none.
-use Rattle.std.proofs.Common.{◌≡◌, ℕ, suc, ◌≤◌, List, [], ◌∷◌, ◌++◌, length, Option, refl, sym, ap, subst, ◌∙◌, arith}
+use Rattle.std.proofs.Common.{◌≡◌, ℕ, suc, ◌≤◌, List, [], ◌∷◌, ◌++◌, length, Option, Some, refl, sym, ap, subst, ◌∙◌, arith}
 use Rattle.std.specs.Prelude.{nat_le, false, codes}
 use Rattle.std.proofs.lemmas.Bool.Decides.{nat_tests}
-use Rattle.vb_text.specs.declared.names.Name.{Name}
-use Rattle.vb_text.specs.Names.{AreApart, Extends, IsNameOf, folding}
+use Rattle.vb_diag.specs.{declared.refusal.Refusal.Refusal, Broken.{IsLeast, InFile}}
+use Rattle.vb_text.specs.{declared.names.Name.Name, Names.{AreApart, Extends, IsNameOf, folding}}
 use Rattle.vb_text.proofs.Growth.{kept_name}
-use Rattle.vb_syntax.specs.declared.tokens.Token.{Token}
-use Rattle.vb_syntax.specs.declared.tokens.Line.{Line}
-use Rattle.vb_syntax.specs.declared.declaration.ImportsStatement.{ImportsStatement}
-use Rattle.vb_syntax.specs.declared.declaration.SourceFile.{SourceFile}
-use Rattle.vb_syntax.specs.declared.item.Item.{Item}
+use Rattle.vb_syntax.specs.{declared.{tokens.{Token.Token, Line.Line}, declaration.{ImportsStatement.ImportsStatement, SourceFile.SourceFile}, item.{Item.Item, Row.Row}, words.ContextualWords.ContextualWords}, ContextualWords.{AreWords, with_words}}
 use Rattle.vb_syntax.specs.declared.item.Item.TheVariants as item
-use Rattle.vb_syntax.specs.declared.item.Row.{Row}
-use Rattle.vb_syntax.specs.declared.words.ContextualWords.{ContextualWords}
-use Rattle.vb_syntax.specs.ContextualWords.{AreWords, with_words}
 use Rattle.vb_lexer.specs.Lines.{LexedFrom}
 use Rattle.vb_lexer.proofs.Unique.{table_unique, reading_unique}
-use Rattle.vb_rows.specs.Pieces.{label_of, pieces_of}
-use Rattle.vb_rows.specs.Rows.{items_behind, ArePieceRows, AreLineRows, label_rows, joined}
-use Rattle.vb_rows.specs.Files.{AreRowsOf}
+use Rattle.vb_rows.specs.{Pieces.{label_of, pieces_of}, Rows.{items_behind, ArePieceRows, AreLineRows, label_rows, joined}, Files.AreRowsOf}
 use Rattle.vb_blocks.specs.Trees.{whole, AreImports, nothing, more, IsTree, file}
 use Rattle.vb_bound.specs.Tree.{Tree}
-use Rattle.vb_bind.specs.declared.names.KnownNames.{KnownNames}
-use Rattle.vb_bind.specs.Grammar.{AreKnown, with_known, IsProgramOf, widest}
-use Rattle.vb_bind.proofs.Trees.{by_test}
-use Rattle.vb_bind.proofs.Widest.{is_wide as wide_first}
+use Rattle.vb_bind.specs.{declared.names.KnownNames.KnownNames, Grammar.{AreKnown, with_known, IsProgramOf, widest}}
+use Rattle.vb_bind.proofs.{Trees.by_test, Widest.is_wide as wide_first}
 use Rattle.vb_parse.specs.Rules.{BreaksLines, IsTreeOf}
-use Rattle.vb_top.specs.Programs.{HasLines, HasTree, IsProgram, IsNoProgram}
+use Rattle.vb_top.specs.Programs.{all_names, HasLines, HasTree, IsProgram, IsNoProgram, IsLeastRule}
 
 pub known_stay : (earlier later : List (List ℕ)) (known : KnownNames) → AreKnown earlier known → Extends later earlier → AreKnown later known
 known_stay earlier later known are ext =
@@ -49,21 +38,6 @@ same_known names known other apart a b =
 
 abbrev eleven : Name → Name → Name → Name → Name → Name → Name → Name → Name → Name → Name → ContextualWords
 eleven x0 x1 x2 x3 x4 x5 x6 x7 x8 x9 x10 = record { binary = x0; compare = x1; custom = x2; explicit = x3; infer = x4; iterator = x5; off = x6; strict = x7; text = x8; until = x9; yields = x10 }
-
-pub words_stay : (earlier later : List (List ℕ)) (w : ContextualWords) → AreWords earlier w → Extends later earlier → AreWords later w
-words_stay earlier later w are ext = (
-  kept_name earlier later (codes "Binary") w.binary are.0 ext,
-  kept_name earlier later (codes "Compare") w.compare are.1 ext,
-  kept_name earlier later (codes "Custom") w.custom are.2 ext,
-  kept_name earlier later (codes "Explicit") w.explicit are.3 ext,
-  kept_name earlier later (codes "Infer") w.infer are.4 ext,
-  kept_name earlier later (codes "Iterator") w.iterator are.5 ext,
-  kept_name earlier later (codes "Off") w.off are.6 ext,
-  kept_name earlier later (codes "Strict") w.strict are.7 ext,
-  kept_name earlier later (codes "Text") w.text are.8 ext,
-  kept_name earlier later (codes "Until") w.until are.9 ext,
-  kept_name earlier later (codes "Yield") w.yields are.10 ext,
-)
 
 same_words : (names : List (List ℕ)) (v w : ContextualWords) → AreApart names → AreWords names v → AreWords names w → v ≡ w
 same_words names v w apart a b =
@@ -93,28 +67,35 @@ same_words names v w apart a b =
 -- the same bytes have the same lines, the same known names and the same words
 pub same_lines : (bytes : List ℕ) (a b : HasLines bytes) → (a.lines ≡ b.lines) × (a.known ≡ b.known) × (a.words ≡ b.words)
 same_lines bytes a b =
-    let table : a.names ≡ b.names = table_unique (with_words (with_known [])) a.names b.names 0 0 bytes a.lines b.lines a.lexed b.lexed in
-    let moved : LexedFrom (with_words (with_known [])) b.names 0 bytes a.lines = subst (λ ns. LexedFrom (with_words (with_known [])) ns 0 bytes a.lines) table a.lexed in
-    let same : a.lines ≡ b.lines = reading_unique b.names 0 bytes a.lines b.lines b.apart moved.lexed b.lexed.lexed in (
+    let table : a.names ≡ b.names = table_unique [] a.names b.names 0 0 bytes a.lines b.lines a.lexed b.lexed in
+    let moved : LexedFrom [] b.names 0 bytes a.lines = subst (λ ns. LexedFrom [] ns 0 bytes a.lines) table a.lexed in
+    let same : a.lines ≡ b.lines = reading_unique b.names 0 bytes a.lines b.lines b.apart moved.lexed b.lexed.lexed in
+    let all : List (List ℕ) = all_names b.names in (
       same,
-      same_known b.names a.known b.known b.apart (subst (λ ns. AreKnown ns a.known) table a.are_known) b.are_known,
-      same_words b.names a.words b.words b.apart (subst (λ ns. AreWords ns a.words) table a.are_words) b.are_words,
+      same_known all a.known b.known b.all_apart (subst (λ ns. AreKnown (all_names ns) a.known) table a.are_known) b.are_known,
+      same_words all a.words b.words b.all_apart (subst (λ ns. AreWords (all_names ns) a.words) table a.are_words) b.are_words,
     )
 
--- the lines of a file that was read behind the grammar's names and then the words
-abbrev pub has_lines : (bytes : List ℕ) (first second third names : List (List ℕ)) (known : KnownNames) (words : ContextualWords) (lines : List Line)
-    → first ≡ [] → second ≡ with_known first → third ≡ with_words second → AreKnown second known → Extends third second → AreWords third words → Extends names third
-    → LexedFrom third names 0 bytes lines → AreApart names → HasLines bytes
-has_lines bytes first second third names known words lines a b c are_known extended are_words grown lexed apart = record {
-  names = names;
-  lines = lines;
-  known = known;
-  words = words;
-  lexed = subst (λ ns. LexedFrom ns names 0 bytes lines) (c ∙ ap (λ ns. with_words ns) (b ∙ ap (λ ns. with_known ns) a)) lexed;
-  apart = apart;
-  are_known = known_stay third names known (known_stay second third known are_known extended) grown;
-  are_words = words_stay third names words are_words grown;
-}
+-- the lines of a file, behind whose names those of the grammar were put into the table, and then the words
+abbrev pub has_lines : (bytes : List ℕ) (first names second third : List (List ℕ)) (known : KnownNames) (words : ContextualWords) (lines : List Line)
+    → first ≡ [] → LexedFrom first names 0 bytes lines → AreApart names → second ≡ with_known names → AreKnown second known → third ≡ with_words second → Extends third second → AreWords third words
+    → AreApart third → HasLines bytes
+has_lines bytes first names second third known words lines a lexed apart b are_known c extended are_words all_apart =
+    let grown : third ≡ all_names names = c ∙ ap (λ ns. with_words ns) b in record {
+      names = names;
+      lines = lines;
+      known = known;
+      words = words;
+      lexed = subst (λ ns. LexedFrom ns names 0 bytes lines) a lexed;
+      apart = apart;
+      all_apart = subst (λ ns. AreApart ns) grown all_apart;
+      are_known = subst (λ ns. AreKnown ns known) grown (known_stay second third known are_known extended);
+      are_words = subst (λ ns. AreWords ns words) grown are_words;
+    }
+
+-- the least refusal of the one file is the least rule
+pub least_rule : (Broken : ℕ → ℕ → Type 0) (r : Refusal) → IsLeast (InFile 0 Broken) (Some r) → IsLeastRule Broken r.line r.rule
+least_rule Broken r h = subst (λ (f : ℕ). IsLeast (InFile 0 Broken) (Some (record { file = f; line = r.line; rule = r.rule }))) h.0.0 h
 
 -- lines that break no rule on lines and blocks have their tree
 abbrev pub has_tree : (bytes : List ℕ) (read : HasLines bytes) (lines : List Line) (tree : SourceFile) → lines ≡ read.lines → IsTreeOf read.words 0 lines tree
@@ -143,7 +124,7 @@ later_wide l lines h = by_test (nat_le (length l.tokens) (widest lines)) _ (λ e
 
 -- a line without a token has no row
 no_rows : (words : ContextualWords) (before : List (Option Item)) (l : Line) (here : List Row) → l.tokens ≡ [] → AreLineRows words before l here → here ≡ []
-no_rows words before l here e are = parts_of are.parts (subst (λ (ts : List Token). ArePieceRows words l.number before (pieces_of ts) are.parts) e are.are)
+no_rows words before l here e are = parts_of are.parts (subst (λ (ts : List Token). ArePieceRows words l.number (items_behind before (label_rows l.number (label_of ts))) (pieces_of ts) are.parts) e are.are)
     (subst (λ (ts : List Token). here ≡ label_rows l.number (label_of ts) ++ joined false are.parts) e are.joined_are)
   where
     parts_of : (parts : List Row) → ArePieceRows words l.number before [] parts → here ≡ joined false parts → here ≡ []

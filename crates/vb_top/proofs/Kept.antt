@@ -4,23 +4,14 @@ use Rattle.std.specs.Prelude.{sum}
 use Rattle.std.specs.Io.KnownBytes.{Appends}
 use Rattle.std.proofs.Math.Nat.{mul-le-mul_left}
 use Rattle.vb_io.specs.Causes.{Rose}
-use Rattle.vb_threads.specs.Machine.{View, AsksNew, AsksWrite, HasThrown as Threw, begun}
-use Rattle.vb_threads.specs.World.{World, Entry, Run as Legal, opening, at}
-use Rattle.vb_threads.specs.Stands.{StandsFor}
-use Rattle.vb_threads.specs.Schedule.{Told, AllEnded, Ended as AllHaveEnded, Uncaught as HasThrown, HeapLimit as NoHeap}
-use Rattle.vb_threads.specs.Work.{IsWithin}
+use Rattle.vb_threads.specs.{Machine.{View, AsksNew, AsksWrite, HasThrown as Threw, begun}, World.{World, Entry, Run as Legal, opening, at}, Stands.StandsFor, Schedule.{Told, AllEnded, Ended as AllHaveEnded, Uncaught as HasThrown, HeapLimit as NoHeap}, Work.IsWithin}
 use Rattle.vb_threads.proofs.Schedules.{told_by_schedule}
-use Rattle.vb_value.specs.Store.{Places, Store, Ask, New, Write, End, seen, after}
-use Rattle.vb_value.specs.declared.stop.Stop.{Stop}
-use Rattle.vb_value.specs.declared.stop.Stop.TheVariants.{Ended, Uncaught, HeapLimit, TurnLimit, WriteFault, Memory}
-use Rattle.vb_code.specs.Code.{Code, class_name}
-use Rattle.vb_code.specs.Machine.{CodeThread, code_next, code_machine}
-use Rattle.vb_code.specs.Shapes.{IsChecked}
+use Rattle.vb_value.specs.{Store.{Places, Store, Ask, New, Write, End, seen, after}, declared.stop.Stop.{Stop, TheVariants.{Ended, Uncaught, HeapLimit, TurnLimit, WriteFault, Memory}}}
+use Rattle.vb_code.specs.{Code.{Code, class_name}, Machine.{CodeThread, code_next, code_machine}, Shapes.IsChecked}
 use Rattle.vb_bound.specs.Tree.{Tree}
 use Rattle.vb_meaning.specs.Source.{source_machine}
 use Rattle.vb_meaning.proofs.Commits.{each_commits}
-use Rattle.vb_turns.specs.declared.alone.Run.{Run}
-use Rattle.vb_turns.specs.Ran.{entry_of, Ran}
+use Rattle.vb_turns.specs.{declared.alone.Run.Run, Ran.{entry_of, Ran}}
 use Rattle.vb_turns.proofs.Finishes.{shows_now}
 use Rattle.vb_top.specs.Reports.{report_with, heap_limit, limits, Gains, StopStandsIn, AsksWriting, RanProgram}
 

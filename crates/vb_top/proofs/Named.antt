@@ -1,16 +1,11 @@
 -- A run that threw stands as one that memory cut short, where there is none for the name of the class.
 use Rattle.std.proofs.Common.{◌≡◌, ℕ, List, Option, Some, refl, sym, subst}
 use Rattle.std.specs.Io.KnownBytes.{Appends}
-use Rattle.vb_value.specs.declared.stop.Stop.{Stop}
-use Rattle.vb_value.specs.declared.stop.Stop.TheVariants.{Ended, Uncaught, HeapLimit, TurnLimit, Memory, WriteFault}
+use Rattle.vb_value.specs.declared.stop.Stop.{Stop, TheVariants.{Ended, Uncaught, HeapLimit, TurnLimit, Memory, WriteFault}}
 use Rattle.vb_bound.specs.Tree.{Tree}
-use Rattle.vb_top.specs.declared.outcome.Report.{Report}
-use Rattle.vb_top.specs.declared.outcome.Answer.{Answer}
-use Rattle.vb_top.specs.declared.outcome.Answer.TheVariants.{Stopped}
-use Rattle.vb_top.specs.Headline.{IsNameIn, TellsRun}
+use Rattle.vb_top.specs.{declared.outcome.{Report.Report, Answer.{Answer, TheVariants.Stopped}}, Headline.{IsNameIn, TellsRun}, Reports.{Gains, RanProgram}}
 use Rattle.vb_code.specs.Code.{class_name}
 use Rattle.vb_text.specs.Units.{utf8_of}
-use Rattle.vb_top.specs.Reports.{Gains, RanProgram}
 
 abbrev pub cut : Report → Report
 cut r = record r { stop = Memory }

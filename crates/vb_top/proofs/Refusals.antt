@@ -4,42 +4,34 @@ use Rattle.std.specs.Prelude.{nat_le, unwrap_or}
 use Rattle.std.specs.List.{All}
 use Rattle.std.proofs.lemmas.List.Elements.{All-nil, All-cons}
 use Rattle.std.proofs.lemmas.Bool.Decides.{nat_tests}
+use Rattle.vb_diag.specs.{declared.refusal.Refusal.Refusal, Broken.{IsLeastLine, InFile}}
+use Rattle.vb_diag.proofs.Least.{one_least, lines_ordered, rules_ordered}
 use Rattle.vb_text.specs.Names.{AreApart}
-use Rattle.vb_syntax.specs.declared.tokens.Line.{Line}
-use Rattle.vb_syntax.specs.declared.declaration.SourceFile.{SourceFile}
-use Rattle.vb_syntax.specs.declared.item.Row.{Row}
-use Rattle.vb_syntax.specs.declared.words.ContextualWords.{ContextualWords}
-use Rattle.vb_syntax.specs.ContextualWords.{AreWords, OptionsApart}
-use Rattle.vb_lexer.specs.Lines.{Item, AreLines, SomeLineBreaks, line_number, token_count, groups_of}
-use Rattle.vb_lexer.proofs.Groups.{tokens_counted}
-use Rattle.vb_lexer.proofs.Unique.{never_both, refusal_unique}
+use Rattle.vb_syntax.specs.{declared.{tokens.Line.Line, declaration.SourceFile.SourceFile, item.Row.Row, words.ContextualWords.ContextualWords}, ContextualWords.{AreWords, OptionsApart}}
+use Rattle.vb_lexer.specs.Lines.{Item, AreLines, Breaks, SomeLineBreaks, line_number, token_count, groups_of}
+use Rattle.vb_lexer.proofs.{Groups.tokens_counted, Unique.never_both}
 use Rattle.vb_parse_expr.specs.TypeReading.{most_tokens}
 use Rattle.vb_rows.specs.Files.{AreRowsOf}
 use Rattle.vb_blocks.specs.Trees.{IsTree}
-use Rattle.vb_parse.specs.Least.{IsLeastBroken}
 use Rattle.vb_parse.specs.Rules.{BreaksLines, IsTreeOf}
-use Rattle.vb_bind.specs.declared.names.KnownNames.{KnownNames}
-use Rattle.vb_bind.specs.Grammar.{HasUnbuiltForm, IsLeast}
+use Rattle.vb_bind.specs.{declared.names.KnownNames.KnownNames, Grammar.HasUnbuiltForm}
 use Rattle.vb_bind.proofs.Trees.{by_test}
-use Rattle.vb_top.specs.Programs.{HasLines, HasTree, IsFirstUnbuilt, LeastBroken}
+use Rattle.vb_top.specs.Programs.{all_names, HasLines, HasTree, IsFirstUnbuilt, IsLeastRule, LeastBroken}
 use Rattle.vb_top.proofs.Compiled.{same_lines}
 
 -- ONE LEAST
 
-not_after : (a b c d : ℕ) → (a < c) ⊎ ((a ≡ c) × (b ≤ d)) → (c < a) ⊎ ((c ≡ a) × (d ≤ b)) → (a ≡ c) × (b ≡ d)
-not_after a b c d (inl h) (inl k) = absurd (omega (arith, h, k))
-not_after a b c d (inl h) (inr k) = absurd (omega (arith, h, k.0))
-not_after a b c d (inr h) (inl k) = absurd (omega (arith, h.0, k))
-not_after a b c d (inr h) (inr k) = (h.0, omega (arith, h.1, k.1))
+abbrev at_line : ℕ → ℕ → Refusal
+at_line line rule = record { file = 0; line = line; rule = rule }
 
-one_broken : (Breaks : ℕ → ℕ → Type 0) (a b c d : ℕ) → IsLeastBroken Breaks a b → IsLeastBroken Breaks c d → (a ≡ c) × (b ≡ d)
-one_broken Breaks a b c d h k = not_after a b c d (h.least c d k.broken) (k.least a b h.broken)
+same_refusal : (a b c d : ℕ) → ◌≡◌ {A = Option Refusal} (Some (at_line a b)) (Some (at_line c d)) → (a ≡ c) × (b ≡ d)
+same_refusal a b c d e =
+    let same : at_line a b ≡ at_line c d = cc in
+    (ap (λ (r : Refusal). r.line) same, ap (λ (r : Refusal). r.rule) same)
 
-one_least : (Is : ℕ → Type 0) (a b : Option ℕ) → IsLeast Is a → IsLeast Is b → a ≡ b
-one_least Is None None h k = refl
-one_least Is None (Some y) h k = absurd (h y k.0)
-one_least Is (Some x) None h k = absurd (k x h.0)
-one_least Is (Some x) (Some y) h k = let one = h.1 y k.0 in let other = k.1 x h.0 in let same : x ≡ y = omega arith in ap (λ n. Some n) same
+-- of these rules one in one line is the least
+one_rule : (Broken : ℕ → ℕ → Type 0) (a b c d : ℕ) → IsLeastRule Broken a b → IsLeastRule Broken c d → (a ≡ c) × (b ≡ d)
+one_rule Broken a b c d h k = same_refusal a b c d (one_least rules_ordered (InFile 0 Broken) (Some (at_line a b)) (Some (at_line c d)) h k)
 
 -- SHORT LINES
 
@@ -76,30 +68,30 @@ module _ (words_apart : (table : List (List ℕ)) (words : ContextualWords) → 
       let same = same_lines bytes a.read b.read in
       let here : IsTreeOf a.read.words 0 b.read.lines a.tree = subst (λ (ls : List Line). IsTreeOf a.read.words 0 ls a.tree) same.0 a.is_tree in
       let there : IsTreeOf b.read.words 0 b.read.lines a.tree = subst (λ (w : ContextualWords). IsTreeOf w 0 b.read.lines a.tree) same.2 here in
-      let apart = words_apart b.read.names b.read.words b.read.apart b.read.are_words in
+      let apart = words_apart (all_names b.read.names) b.read.words b.read.all_apart b.read.are_words in
       let rows : there.rows ≡ b.is_tree.rows = one_list b.read.words b.read.lines there.rows b.is_tree.rows apart (lines_short bytes b.read) there.are_rows b.is_tree.are_rows in
       one_tree 0 b.is_tree.rows a.tree b.tree (subst (λ (rs : List Row). IsTree 0 rs a.tree) rows there.is_tree) b.is_tree.is_tree
 
-  same_broken : (a b : HasLines bytes) (line rule : ℕ) → IsLeastBroken (BreaksLines a.words a.lines) line rule → IsLeastBroken (BreaksLines b.words b.lines) line rule
+  same_broken : (a b : HasLines bytes) (line rule : ℕ) → IsLeastRule (BreaksLines a.words a.lines) line rule → IsLeastRule (BreaksLines b.words b.lines) line rule
   same_broken a b line rule h =
       let same = same_lines bytes a b in
-      subst (λ (w : ContextualWords). IsLeastBroken (BreaksLines w b.lines) line rule) same.2 (subst (λ (ls : List Line). IsLeastBroken (BreaksLines a.words ls) line rule) same.0 h)
+      subst (λ (w : ContextualWords). IsLeastRule (BreaksLines w b.lines) line rule) same.2 (subst (λ (ls : List Line). IsLeastRule (BreaksLines a.words ls) line rule) same.0 h)
 
   same_first : (a b : HasTree bytes) (line other : ℕ) → IsFirstUnbuilt a.read.known a.tree line → IsFirstUnbuilt b.read.known b.tree other → line ≡ other
   same_first a b line other h k =
       let same = same_lines bytes a.read b.read in
-      let here : IsLeast (HasUnbuiltForm a.read.known b.tree) h.0 = subst (λ (f : SourceFile). IsLeast (HasUnbuiltForm a.read.known f) h.0) (same_trees a b) h.1 in
-      let there : IsLeast (HasUnbuiltForm b.read.known b.tree) h.0 = subst (λ (known : KnownNames). IsLeast (HasUnbuiltForm known b.tree) h.0) same.1 here in
-      let least : h.0 ≡ k.0 = one_least (HasUnbuiltForm b.read.known b.tree) h.0 k.0 there k.1 in
+      let here : IsLeastLine (HasUnbuiltForm a.read.known b.tree) h.0 = subst (λ (f : SourceFile). IsLeastLine (HasUnbuiltForm a.read.known f) h.0) (same_trees a b) h.1 in
+      let there : IsLeastLine (HasUnbuiltForm b.read.known b.tree) h.0 = subst (λ (known : KnownNames). IsLeastLine (HasUnbuiltForm known b.tree) h.0) same.1 here in
+      let least : h.0 ≡ k.0 = one_least lines_ordered (HasUnbuiltForm b.read.known b.tree) h.0 k.0 there k.1 in
       h.2 ∙ ap (λ (o : Option ℕ). unwrap_or o 1) least ∙ sym k.2
 
   pub one : (line rule other_line other_rule : ℕ) → LeastBroken bytes line rule → LeastBroken bytes other_line other_rule → (line ≡ other_line) × (rule ≡ other_rule)
-  one line rule other_line other_rule (inl h) (inl k) = refusal_unique bytes line rule other_line other_rule h k
-  one line rule other_line other_rule (inl h) (inr (inl k)) = absurd (never_both k.0.names 0 bytes k.0.lines line rule k.0.lexed.lexed h)
-  one line rule other_line other_rule (inl h) (inr (inr k)) = absurd (never_both k.0.read.names 0 bytes k.0.read.lines line rule k.0.read.lexed.lexed h)
-  one line rule other_line other_rule (inr (inl h)) (inl k) = absurd (never_both h.0.names 0 bytes h.0.lines other_line other_rule h.0.lexed.lexed k)
-  one line rule other_line other_rule (inr (inr h)) (inl k) = absurd (never_both h.0.read.names 0 bytes h.0.read.lines other_line other_rule h.0.read.lexed.lexed k)
-  one line rule other_line other_rule (inr (inl h)) (inr (inl k)) = one_broken (BreaksLines k.0.words k.0.lines) line rule other_line other_rule (same_broken h.0 k.0 line rule h.1) k.1
-  one line rule other_line other_rule (inr (inl h)) (inr (inr k)) = absurd (k.0.sound line rule (same_broken h.0 k.0.read line rule h.1).broken)
-  one line rule other_line other_rule (inr (inr h)) (inr (inl k)) = absurd (h.0.sound other_line other_rule (same_broken k.0 h.0.read other_line other_rule k.1).broken)
+  one line rule other_line other_rule (inl h) (inl k) = one_rule (Breaks bytes) line rule other_line other_rule h k
+  one line rule other_line other_rule (inl h) (inr (inl k)) = absurd (never_both k.0.names 0 bytes k.0.lines line rule k.0.lexed.lexed h.0.1)
+  one line rule other_line other_rule (inl h) (inr (inr k)) = absurd (never_both k.0.read.names 0 bytes k.0.read.lines line rule k.0.read.lexed.lexed h.0.1)
+  one line rule other_line other_rule (inr (inl h)) (inl k) = absurd (never_both h.0.names 0 bytes h.0.lines other_line other_rule h.0.lexed.lexed k.0.1)
+  one line rule other_line other_rule (inr (inr h)) (inl k) = absurd (never_both h.0.read.names 0 bytes h.0.read.lines other_line other_rule h.0.read.lexed.lexed k.0.1)
+  one line rule other_line other_rule (inr (inl h)) (inr (inl k)) = one_rule (BreaksLines k.0.words k.0.lines) line rule other_line other_rule (same_broken h.0 k.0 line rule h.1) k.1
+  one line rule other_line other_rule (inr (inl h)) (inr (inr k)) = absurd (k.0.sound line rule (same_broken h.0 k.0.read line rule h.1).0.1)
+  one line rule other_line other_rule (inr (inr h)) (inr (inl k)) = absurd (h.0.sound other_line other_rule (same_broken k.0 h.0.read other_line other_rule k.1).0.1)
   one line rule other_line other_rule (inr (inr h)) (inr (inr k)) = (same_first h.0 k.0 line other_line h.3 k.3, h.1 ∙ sym k.1)

@@ -3,14 +3,9 @@ use Rattle.std.specs.Prelude.{◌≡◌, ◌⊎◌, ℕ, List, [], ◌++◌, Opt
 use Rattle.std.specs.Fmt.{decimal}
 use Rattle.std.specs.Io.KnownBytes.{Appends}
 use Rattle.vb_diag.specs.Rules.{refusal_text}
-use Rattle.vb_io.specs.Causes.{Rose}
-use Rattle.vb_io.specs.Outside.{AppendsPart}
-use Rattle.vb_value.specs.declared.stop.Stop.{Stop}
-use Rattle.vb_value.specs.declared.stop.Stop.TheVariants.{Ended, Uncaught, HeapLimit, TurnLimit, WriteFault, Memory as NoMemory}
-use Rattle.vb_value.specs.declared.stop.Status.{Status}
-use Rattle.vb_value.specs.declared.stop.Status.TheVariants.{Ended as StatusEnded, Refused as StatusRefused, Usage as StatusUsage, Uncaught as StatusUncaught, Heap, Turns, Read, Write, Memory as StatusMemory, File}
-use Rattle.vb_top.specs.declared.outcome.Answer.{Answer}
-use Rattle.vb_top.specs.declared.outcome.Answer.TheVariants.{Usage, Missing, TooLong, LoadFault, Refused, Memory, Stopped}
+use Rattle.vb_io.specs.{Causes.Rose, Outside.AppendsPart}
+use Rattle.vb_value.specs.declared.stop.{Stop.{Stop, TheVariants.{Ended, Uncaught, HeapLimit, TurnLimit, WriteFault, Memory as NoMemory}}, Status.{Status, TheVariants.{Ended as StatusEnded, Refused as StatusRefused, Usage as StatusUsage, Uncaught as StatusUncaught, Heap, Turns, Read, Write, Memory as StatusMemory, File}}}
+use Rattle.vb_top.specs.declared.outcome.Answer.{Answer, TheVariants.{Usage, Missing, TooLong, LoadFault, Refused, Memory, Stopped}}
 
 -- the exit status of a stop
 abbrev pub status_of_stop : Stop → Status

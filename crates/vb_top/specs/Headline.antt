@@ -2,30 +2,16 @@
 use Rattle.std.specs.Prelude.{◌≡◌, ◌⊎◌, ℕ, ◌<◌, ◌≤◌, List, length, map, Option, Some, None, String, string_bytes}
 use Rattle.std.specs.declared.alloc.Global.{Global}
 use Rattle.std.specs.Io.KnownBytes.{Keeps}
-use Rattle.vb_io.specs.Causes.{Rose}
-use Rattle.vb_io.specs.Files.{Files, file_of, OfTold}
+use Rattle.vb_io.specs.{Causes.Rose, Files.{Files, file_of, OfTold}}
 use Rattle.vb_text.specs.Units.{utf8_of}
 use Rattle.vb_threads.specs.World.{Thread, World}
-use Rattle.vb_value.specs.Store.{Store}
-use Rattle.vb_value.specs.declared.stop.Stop.{Stop}
-use Rattle.vb_value.specs.declared.stop.Stop.TheVariants.{Ended, Uncaught, HeapLimit, TurnLimit, WriteFault, Memory as NoMemory}
-use Rattle.vb_value.specs.declared.stop.Status.{Status}
-use Rattle.vb_value.specs.declared.stop.Status.TheVariants.{Write}
-use Rattle.vb_code.specs.Code.{class_name}
-use Rattle.vb_code.specs.Machine.{CodeThread}
+use Rattle.vb_value.specs.{Store.Store, declared.stop.{Stop.{Stop, TheVariants.{Ended, Uncaught, HeapLimit, TurnLimit, WriteFault, Memory as NoMemory}}, Status.{Status, TheVariants.Write}}}
+use Rattle.vb_code.specs.{Code.class_name, Machine.CodeThread}
 use Rattle.vb_bound.specs.Tree.{Tree}
 use Rattle.vb_meaning.specs.Source.{SourceThread}
 use Rattle.vb_turns.specs.Ran.{AreMains}
-use Rattle.vb_top.specs.declared.outcome.Answer.{Answer}
-use Rattle.vb_top.specs.declared.outcome.Answer.TheVariants.{Usage, Missing, TooLong, LoadFault, Refused, Memory, Stopped}
-use Rattle.vb_top.specs.declared.outcome.Report.{Report}
-use Rattle.vb_top.specs.declared.outcome.Finished.{Finished}
-use Rattle.vb_top.specs.declared.running.Outcome.{Outcome}
-use Rattle.vb_top.specs.Words.{file_of_words}
+use Rattle.vb_top.specs.{declared.{outcome.{Answer.{Answer, TheVariants.{Usage, Missing, TooLong, LoadFault, Refused, Memory, Stopped}}, Report.Report, Finished.Finished}, running.Outcome.Outcome}, Words.file_of_words, Programs.{IsProgram, LeastBroken}, Answers.{status_of, line_of, Tells}, Reports.{ShowsRun, StopStandsIn, StopStandsInCode, CodeRan, Counts, AsksWriting, RanProgram}}
 use Rattle.vb_bind.specs.Grammar.{widest}
-use Rattle.vb_top.specs.Programs.{IsProgram, LeastBroken}
-use Rattle.vb_top.specs.Answers.{status_of, line_of, Tells}
-use Rattle.vb_top.specs.Reports.{ShowsRun, StopStandsIn, StopStandsInCode, CodeRan, Counts, AsksWriting, RanProgram}
 
 -- the longest file, in bytes
 abbrev pub longest_file : ℕ

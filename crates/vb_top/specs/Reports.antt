@@ -3,21 +3,12 @@ use Rattle.std.specs.Prelude.{◌≡◌, ℕ, ◌+◌, ◌*◌, ◌<◌, ◌≤�
 use Rattle.std.specs.Io.KnownBytes.{Appends}
 use Rattle.vb_io.specs.Causes.{Rose}
 use Rattle.vb_text.specs.Units.{utf8_of}
-use Rattle.vb_threads.specs.Machine.{AsksWrite, quiet, begun, taken}
-use Rattle.vb_threads.specs.World.{Thread, World, Run as Legal, opening}
-use Rattle.vb_threads.specs.Stands.{StandsFor}
-use Rattle.vb_threads.specs.Schedule.{Scheduled, schedule_of, AreTails, Shows, ShowsNow, Ended as AllHaveEnded, Uncaught as HasThrown, HeapLimit as NoHeap, Stands}
-use Rattle.vb_value.specs.Store.{Store}
-use Rattle.vb_value.specs.declared.stop.Limits.{Limits}
-use Rattle.vb_value.specs.declared.stop.Stop.{Stop}
-use Rattle.vb_value.specs.declared.stop.Stop.TheVariants.{Ended, Uncaught, HeapLimit, TurnLimit, WriteFault, Memory}
-use Rattle.vb_code.specs.Code.{Code, class_name}
-use Rattle.vb_code.specs.Machine.{CodeThread, code_next, code_machine}
-use Rattle.vb_code.specs.Shapes.{IsChecked}
+use Rattle.vb_threads.specs.{Machine.{AsksWrite, quiet, begun, taken}, World.{Thread, World, Run as Legal, opening}, Stands.StandsFor, Schedule.{Scheduled, schedule_of, AreTails, Shows, ShowsNow, Ended as AllHaveEnded, Uncaught as HasThrown, HeapLimit as NoHeap, Stands}}
+use Rattle.vb_value.specs.{Store.Store, declared.stop.{Limits.Limits, Stop.{Stop, TheVariants.{Ended, Uncaught, HeapLimit, TurnLimit, WriteFault, Memory}}}}
+use Rattle.vb_code.specs.{Code.{Code, class_name}, Machine.{CodeThread, code_next, code_machine}, Shapes.IsChecked}
 use Rattle.vb_bound.specs.Tree.{Tree}
 use Rattle.vb_meaning.specs.Source.{SourceThread, source_machine}
-use Rattle.vb_turns.specs.declared.alone.Run.{Run}
-use Rattle.vb_turns.specs.Ran.{entry_of, AreMains, StandsBy}
+use Rattle.vb_turns.specs.{declared.alone.Run.Run, Ran.{entry_of, AreMains, StandsBy}}
 use Rattle.vb_top.specs.declared.outcome.Report.{Report}
 
 abbrev pub report_with : Code → Run → Stop → Report

@@ -42,13 +42,14 @@ pub fn compile(alloc: Global, bytes: &[u8]) -> Result<Program, CompileErr>
     ensures refused { (refusal : OneRefusal) → result ≡ Err (CompileErr.Refused refusal) → LeastBroken bytes.now refusal.line refusal.rule }
 {
     let mut names = NameTable::new(alloc)?;
-    let known = KnownNames::new(&mut names)?;
-    let words = ContextualWords::new(&mut names)?;
     let lines = match lex(alloc, 0, bytes, &mut names) {
         Ok(lines) => lines,
         Err(LexErr::Refused(refusal)) => return Err(CompileErr::Refused(refusal)),
         Err(LexErr::Memory) => return Err(CompileErr::Memory),
     };
+    names.are_apart();
+    let known = KnownNames::new(&mut names)?;
+    let words = ContextualWords::new(&mut names)?;
     names.are_apart();
     words_apart();
     names_stay();

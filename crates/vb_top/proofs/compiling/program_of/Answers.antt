@@ -2,8 +2,7 @@ use Rattle.std.proofs.Common.{◌≡◌, ap, subst, ◌∙◌}
 use Rattle.std.specs.Prelude.{Err}
 use Rattle.vb_diag.specs.declared.refusal.Refusal.{Refusal}
 use Rattle.vb_bound.specs.Tree.{Tree}
-use Rattle.vb_bind.specs.declared.program.ReadErr.{ReadErr}
-use Rattle.vb_bind.specs.Grammar.{IsProgramOf}
+use Rattle.vb_bind.specs.{declared.program.ReadErr.ReadErr, Grammar.IsProgramOf}
 use Rattle.vb_top.specs.Programs.{IsFirstUnbuilt}
 use Rattle.vb_top.proofs.compiling.program_of.Goals as goal
 

@@ -1,7 +1,6 @@
 use Rattle.std.proofs.Common.{List, ℕ, Option, sym, subst}
 use Rattle.std.specs.Prelude.{IfSome}
-use Rattle.vb_turns.specs.declared.alone.Run.{Run}
-use Rattle.vb_turns.specs.Ran.{Ran}
+use Rattle.vb_turns.specs.{declared.alone.Run.Run, Ran.Ran}
 use Rattle.vb_top.specs.Reports.{RanProgram, limits}
 use Rattle.vb_top.proofs.Kept.{ran_program}
 use Rattle.vb_top.proofs.running.run_program.Goals as goal
