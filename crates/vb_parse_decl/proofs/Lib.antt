@@ -19,6 +19,7 @@ pub mod ReadersParameters
 pub mod ReadersMembers
 pub mod ReadersModifiers
 pub mod ReadersSignatures
+pub mod PropertyModifiers
 pub mod LinesFound
 pub mod LinesRead
 pub mod LineForms

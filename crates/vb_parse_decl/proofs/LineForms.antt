@@ -16,7 +16,7 @@ use Rattle.vb_syntax.specs.declared.declaration.PropertyKind.TheVariants as prop
 use Rattle.vb_syntax.specs.declared.item.DeclarationLine.TheVariants as line
 use Rattle.vb_syntax.specs.declared.item.EventAccessorKind.TheVariants as accessor
 use Rattle.vb_parse_expr.specs.Words.{comma, name_of}
-use Rattle.vb_parse_decl.specs.{Parts.{reserved, equal, Begins, Words, IsParted, AreListed}, Declarators.{IsModified, IsIdentifier, IsDeclarator}, Declarations.{modifier_words, Modified}, DeclarationLines.{modifiers_of, property_words, IsProperty, Behind, IsDeclarationLine}, ModifierReading.{after_protected_friend, first_word, first_modifier, read_modifiers}, LineReading.{begins_member, variables_at, begins_constants}}
+use Rattle.vb_parse_decl.specs.{Parts.{reserved, equal, Begins, Words, IsParted, AreListed}, Declarators.{IsModified, IsIdentifier, IsDeclarator}, Declarations.{modifier_words, Modified}, DeclarationLines.{AreModifiersOf, property_words, IsProperty, Behind, IsDeclarationLine}, ModifierReading.{after_protected_friend, first_word, first_modifier, read_modifiers}, LineReading.{begins_member, variables_at, begins_constants}}
 use Rattle.vb_parse_decl.proofs.{ReadersModifiers.{AreRead, are_read, are_found}, LinesRead.IsHeaderLine}
 
 -- HOW DECLARATORS BEGIN
@@ -235,7 +235,7 @@ header_form words (line.Constructor ms ps is) ts header p = word_form ts p.0 wor
 header_form words (line.Function ms function.Regular s r is) ts header p = word_form ts p.0 word.Function p.1 (form_function p.0)
 header_form words (line.Function ms function.Iterator s r is) ts header (us, is1, (vs, is2, p)) =
     named_form words ts (reserved word.Function ∷ vs) words.iterator (is1 ∙ ap (λ ws. token.Name words.iterator ∷ ws) is2) (form_iterator words.iterator vs)
-header_form words (line.Property ms h) ts header p = property_form h.kind ts p.1
+header_form words (line.Property ms h) ts header p = property_form h.kind ts p
   where
     property_form : (k : PropertyKind) (us : List Token) → Words (property_words k) (IsProperty h) us → Form us false None
     property_form property.ReadWrite us q = word_form us q.0 word.Property q.1 (form_property q.0)
@@ -281,24 +281,24 @@ behind_stops words d ts p = let f = header_form words d ts tt p in f.stops
 
 -- WHICH FORM IT IS
 
-pub as_constants : (words : ContextualWords) (d : DeclarationLine) (ts : List Token) → Behind words d ts → begins_constants ts ≡ true
-    → (ds : List Declarator) × (d ≡ line.Constants (modifiers_of d) ds) × (modifiers_of d ≡ [] → ⊥) × AreListed IsDeclarator (drop 1 ts) ds
-as_constants words (line.Constants ms ds) ts (some, (us, is, p)) e =
-    (ds, refl, some, subst (λ vs. AreListed IsDeclarator vs ds) (sym (ap (λ vs. drop 1 vs) is)) p)
-as_constants words (line.Variables ms ds) ts p e = let f = variables_form ts ds p.1 in absurd (both_ways (begins_constants ts) f.form.begins e)
-as_constants words d ts p e = let f = header_form words d ts tt p in absurd (both_ways (begins_constants ts) f.begins e)
+pub as_constants : (words : ContextualWords) (d : DeclarationLine) (all : List Modifier) (ts : List Token) → AreModifiersOf d all → Behind words d ts → begins_constants ts ≡ true
+    → (ds : List Declarator) × (d ≡ line.Constants all ds) × (all ≡ [] → ⊥) × AreListed IsDeclarator (drop 1 ts) ds
+as_constants words (line.Constants ms ds) all ts are (some, (us, is, p)) e =
+    (ds, ap (λ (xs : List Modifier). line.Constants xs ds) are, λ empty. some (are ∙ empty), subst (λ vs. AreListed IsDeclarator vs ds) (sym (ap (λ vs. drop 1 vs) is)) p)
+as_constants words (line.Variables ms ds) all ts are p e = let f = variables_form ts ds p.1 in absurd (both_ways (begins_constants ts) f.form.begins e)
+as_constants words d all ts are p e = let f = header_form words d ts tt p in absurd (both_ways (begins_constants ts) f.begins e)
 
-pub as_variables : (words : ContextualWords) (d : DeclarationLine) (ts : List Token) (k : ℕ) → Behind words d ts → variables_at ts ≡ Some k
-    → (ds : List Declarator) × (d ≡ line.Variables (modifiers_of d) ds) × (modifiers_of d ≡ [] → ⊥) × AreListed IsDeclarator (drop k ts) ds
-as_variables words (line.Variables ms ds) ts k p e =
+pub as_variables : (words : ContextualWords) (d : DeclarationLine) (all : List Modifier) (ts : List Token) (k : ℕ) → AreModifiersOf d all → Behind words d ts → variables_at ts ≡ Some k
+    → (ds : List Declarator) × (d ≡ line.Variables all ds) × (all ≡ [] → ⊥) × AreListed IsDeclarator (drop k ts) ds
+as_variables words (line.Variables ms ds) all ts k are p e =
     let f = variables_form ts ds p.1 in
     let both : Some f.before ≡ Some k = sym f.form.at ∙ e in
     let same : f.before ≡ k = cc in
-    (ds, refl, p.0, subst (λ (n : ℕ). AreListed IsDeclarator (drop n ts) ds) same f.listed)
-as_variables words (line.Constants ms ds) ts k p e =
+    (ds, ap (λ (xs : List Modifier). line.Variables xs ds) are, λ empty. p.0 (are ∙ empty), subst (λ (n : ℕ). AreListed IsDeclarator (drop n ts) ds) same f.listed)
+as_variables words (line.Constants ms ds) all ts k are p e =
     let f = constants_form ts p.1.0 p.1.1 in
     let none : None ≡ Some k = sym f.at ∙ e in absurd cc
-as_variables words d ts k p e =
+as_variables words d all ts k are p e =
     let f = header_form words d ts tt p in
     let none : None ≡ Some k = sym f.at ∙ e in absurd cc
 
@@ -312,27 +312,27 @@ as_header words d ts p e v = tt
 
 -- THE WHOLE LINE
 
-pub line_read : (words : ContextualWords) (ts : List Token) (d : DeclarationLine) → IsDeclarationLine words ts d → AreRead (Behind words d) (modifiers_of d) ts
-line_read words ts d p = are_read (Behind words d) (behind_stops words d) (modifiers_of d) ts p
+pub line_read : (words : ContextualWords) (d : DeclarationLine) (all : List Modifier) (ts : List Token) → Modified all (Behind words d) ts → AreRead (Behind words d) all ts
+line_read words d all ts p = are_read (Behind words d) (behind_stops words d) all ts p
 
 -- read so, it has these modifiers, and is spelled behind them
 pub record ReadsAs (words : ContextualWords) (ms : List Modifier) (us : List Token) (d : DeclarationLine) : Type 0 where
-  pub modifiers : modifiers_of d ≡ ms
+  pub modifiers : AreModifiersOf d ms
   pub behind : Behind words d us
 
 pub read_as : (words : ContextualWords) (ts us : List Token) (ms : List Modifier) (d : DeclarationLine) → read_modifiers ts ≡ (ms, us) → IsDeclarationLine words ts d
     → ReadsAs words ms us d
-read_as words ts us ms d e p =
-    let r = line_read words ts d p in
-    let same : ◌≡◌ {A = List Modifier × List Token} (modifiers_of d, r.us) (ms, us) = sym r.reads ∙ e in
+read_as words ts us ms d e (all, are, p) =
+    let r = line_read words d all ts p in
+    let same : ◌≡◌ {A = List Modifier × List Token} (all, r.us) (ms, us) = sym r.reads ∙ e in
     record {
-      modifiers = ap (λ (q : List Modifier × List Token). q.0) same;
+      modifiers = subst (AreModifiersOf d) (ap (λ (q : List Modifier × List Token). q.0) same) are;
       behind = subst (Behind words d) (ap (λ (q : List Modifier × List Token). q.1) same) r.behind;
     }
 
-pub line_found : (words : ContextualWords) (ts us : List Token) (ms : List Modifier) (d : DeclarationLine) → read_modifiers ts ≡ (ms, us) → modifiers_of d ≡ ms → Behind words d us
+pub line_found : (words : ContextualWords) (ts us : List Token) (ms : List Modifier) (d : DeclarationLine) → read_modifiers ts ≡ (ms, us) → AreModifiersOf d ms → Behind words d us
     → IsDeclarationLine words ts d
-line_found words ts us ms d e same p = are_found (Behind words d) (modifiers_of d) ts us (e ∙ ap (λ (xs : List Modifier). (xs, us)) (sym same)) p
+line_found words ts us ms d e are p = (ms, are, are_found (Behind words d) ms ts us e p)
 
 -- THE PLACE BEHIND THE MODIFIERS
 

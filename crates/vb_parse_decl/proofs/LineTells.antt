@@ -65,8 +65,8 @@ module _ (words : ContextualWords) (tokens us : List Token) (ms : List Modifier)
       → (d : DeclarationLine) → IsDeclarationLine words tokens d → ⊥
   no_constants n size e none d p =
       let r = read_as words tokens us ms d read p in
-      let a = as_constants words d us r.behind e in
-      none a.0 (λ empty. a.2 (r.modifiers ∙ empty), subst (λ vs. AreListed IsDeclarator vs a.0) (sym (far n 1 size)) a.3)
+      let a = as_constants words d ms us r.modifiers r.behind e in
+      none a.0 (a.2, subst (λ vs. AreListed IsDeclarator vs a.0) (sym (far n 1 size)) a.3)
 
   -- VARIABLES
 
@@ -84,8 +84,8 @@ module _ (words : ContextualWords) (tokens us : List Token) (ms : List Modifier)
       → (d : DeclarationLine) → IsDeclarationLine words tokens d → ⊥
   no_variables n k size e none d p =
       let r = read_as words tokens us ms d read p in
-      let a = as_variables words d us k r.behind e in
-      none a.0 (λ empty. a.2 (r.modifiers ∙ empty), subst (λ vs. AreListed IsDeclarator vs a.0) (sym (far n k size)) a.3)
+      let a = as_variables words d ms us k r.modifiers r.behind e in
+      none a.0 (a.2, subst (λ vs. AreListed IsDeclarator vs a.0) (sym (far n k size)) a.3)
 
   -- HEADERS
 
@@ -97,6 +97,6 @@ module _ (words : ContextualWords) (tokens us : List Token) (ms : List Modifier)
   no_header few e v none d p =
       let r = read_as words tokens us ms d read p in
       let header = as_header words d us r.behind e v in
-      let there = header_read words d us header (omega (arith, few, shorter)) r.behind in
-      let same : None ≡ Some d = sym none ∙ ap (λ (xs : List Modifier). read_header words xs us) (sym r.modifiers) ∙ there in
+      let there = header_read words d ms us header (omega (arith, few, shorter)) r.modifiers r.behind in
+      let same : None ≡ Some d = sym none ∙ there in
       absurd cc

@@ -1,5 +1,5 @@
 -- What is read behind the modifiers of a line stands there.
-use Rattle.std.proofs.Common.{◌≡◌, ℕ, Bool, true, false, List, [], ◌∷◌, ◌++◌, Option, Some, None, refl, sym, ap, subst, ◌∙◌, arith, length, length-append}
+use Rattle.std.proofs.Common.{◌≡◌, ℕ, Bool, true, false, List, [], ◌∷◌, ◌++◌, Option, Some, None, refl, sym, ap, subst, ◌∙◌}
 use Rattle.std.specs.Prelude.{◌==◌, if◌then◌else◌}
 use Rattle.std.proofs.lemmas.Bool.{eqb-true}
 use Rattle.vb_text.specs.declared.names.Name.{Name}
@@ -13,14 +13,14 @@ use Rattle.vb_syntax.specs.declared.declaration.Modifier.TheVariants as modifier
 use Rattle.vb_syntax.specs.declared.declaration.PropertyKind.TheVariants as property
 use Rattle.vb_syntax.specs.declared.item.DeclarationLine.TheVariants as line
 use Rattle.vb_syntax.specs.declared.item.EventAccessorKind.TheVariants as accessor
-use Rattle.vb_parse_expr.specs.TypeReading.{and_then, read_name, read_type, popped}
-use Rattle.vb_parse_expr.proofs.{Lists.popped_append, TypeNames.{then_some, name_first}}
-use Rattle.vb_parse_decl.specs.{Parts.{reserved, IsType, Names, Words, Part, AreListed}, Declarations.{AreTypeParameters, IsNameModifier, IsDeclared, AreWritten, AreParameters, Signed, IsResult, IsHandler, IsInitial, AreImplemented}, DeclarationLines.{access_modifiers, property_modifiers, EndsReadOnly, modifiers_of, delegate_word, property_words, accessor_word, IsProperty, Behind}, DeclarationReading.{read_list, name_modifier_of, read_declared, read_written, read_parameters, read_type_parameters, read_signature, read_result}, ModifierReading.{only_access, kind_split, last_split, property_split}, LineReading.{ended, given, last_implements, read_module, read_class, read_interface, read_delegate, last_types, read_inherits, read_implements_line, read_sub, read_constructor, read_function, read_initial, property_header, property_named, read_property, property_of, read_handler, read_event, read_custom_event, read_get, read_set, read_accessor, class_behind, delegate_behind, sub_behind, write_only_behind, property_behind, by_access, by_word, by_name, read_header}}
-use Rattle.vb_parse_decl.proofs.{Readers.{read_part, read_names, some_same}, ReadersLists.EndsList, ReadersTypes.{Stops, types_reads}, ReadersParameters.{NoTypeParameters, NoParameters, Anything, type_parameters_reads, declared_reads, written_reads, parameters_reads, modifier_found}, ReadersMembers.{popped_whole, popped_none, ended_found, whole_found, last_found_members}, ReadersSignatures.{EndsInitial, signed_found, result_found, handler_reads, initial_reads}}
+use Rattle.vb_parse_expr.specs.TypeReading.{and_then, read_name, read_type}
+use Rattle.vb_parse_expr.proofs.TypeNames.{then_some, name_first}
+use Rattle.vb_parse_decl.specs.{Parts.{reserved, IsType, Names, Words, Part, AreListed}, Declarations.{AreTypeParameters, IsNameModifier, IsDeclared, AreWritten, AreParameters, Signed, IsResult, IsHandler, IsInitial, AreImplemented}, DeclarationLines.{access_modifiers, ArePropertyModifiers, AreModifiersOf, delegate_word, property_words, accessor_word, IsProperty, Behind}, DeclarationReading.{read_list, name_modifier_of, read_declared, read_written, read_parameters, read_type_parameters, read_signature, read_result}, ModifierReading.{only_access, property_split}, LineReading.{ended, given, last_implements, read_module, read_class, read_interface, read_delegate, last_types, read_inherits, read_implements_line, read_sub, read_constructor, read_function, read_initial, property_header, property_named, read_property, property_of, read_handler, read_event, read_custom_event, read_get, read_set, read_accessor, class_behind, delegate_behind, sub_behind, write_only_behind, property_behind, by_access, by_word, by_name, read_header}}
+use Rattle.vb_parse_decl.proofs.{Readers.{read_part, read_names, some_same}, ReadersLists.EndsList, ReadersTypes.{Stops, types_reads}, ReadersParameters.{NoTypeParameters, NoParameters, Anything, type_parameters_reads, declared_reads, written_reads, parameters_reads, modifier_found}, ReadersMembers.{ended_found, whole_found, last_found_members}, ReadersSignatures.{EndsInitial, signed_found, result_found, handler_reads, initial_reads}, PropertyModifiers.{SplitModifiers, split_found}}
 
 -- the line has these modifiers, and is spelled behind them
 pub record Stands (words : ContextualWords) (ms : List Modifier) (ts : List Token) (d : DeclarationLine) : Type 0 where
-  pub modifiers : modifiers_of d ≡ ms
+  pub modifiers : AreModifiersOf d ms
   pub behind : Behind words d ts
 
 stands_as : (words : ContextualWords) (ms : List Modifier) (ts : List Token) (d b : DeclarationLine) → b ≡ d → Stands words ms ts b → Stands words ms ts d
@@ -34,46 +34,6 @@ access_of : (ms : List Modifier) (a : Option Access) → only_access ms ≡ Some
 access_of [] a e = let same : None ≡ a = some_same None a e in ap access_modifiers (sym same)
 access_of (modifier.Access x ∷ []) a e = let same : Some x ≡ a = some_same (Some x) a e in ap access_modifiers (sym same)
 access_of ms a e = absurd cc
-
-not_both : (k : PropertyKind) → k ≡ property.ReadWrite → k ≡ property.WriteOnly → ⊥
-not_both k e f = let same : property.ReadWrite ≡ property.WriteOnly = sym e ∙ f in absurd cc
-
--- THE LAST MODIFIER OF A PROPERTY
-
-record SplitModifiers (ms : List Modifier) (p : List Modifier × PropertyKind) : Type 0 where
-  whole : property_modifiers p.0 p.1 ≡ ms
-  bare : p.1 ≡ property.ReadWrite → EndsReadOnly p.0 → ⊥
-  plain : property_words p.1 ≡ word.Property ∷ []
-
-other_last : (ms ns : List Modifier) (m x : Modifier) → ms ++ m ∷ [] ≡ ns ++ x ∷ [] → m ≡ x
-other_last ms ns m x e =
-    let same : ◌≡◌ {A = List Modifier × Modifier} (ms, m) (ns, x) = some_same (ms, m) (ns, x) (sym (popped_append ms m) ∙ ap popped e ∙ popped_append ns x) in
-    ap (λ (p : List Modifier × Modifier). p.1) same
-
-none_last : EndsReadOnly [] → ⊥
-none_last (ns, e) = absurd (omega (arith, ap length e, length-append ns (modifier.ReadOnly ∷ [])))
-
-kept : (ms ns : List Modifier) (m : Modifier) → ms ≡ ns ++ m ∷ [] → (m ≡ modifier.ReadOnly → ⊥) → SplitModifiers ms (ns ++ m ∷ [], property.ReadWrite)
-kept ms ns m e other = record { whole = sym e; bare = λ r ends. other (other_last ns ends.0 m modifier.ReadOnly ends.1); plain = refl }
-
-split_last : (ms ns : List Modifier) (m : Modifier) → ms ≡ ns ++ m ∷ [] → SplitModifiers ms (kind_split ns m)
-split_last ms ns modifier.ReadOnly e = record { whole = sym e; bare = λ r ends. absurd cc; plain = refl }
-split_last ms ns (modifier.Access a) e = kept ms ns (modifier.Access a) e (λ same. absurd cc)
-split_last ms ns modifier.Shared e = kept ms ns modifier.Shared e (λ same. absurd cc)
-split_last ms ns modifier.Overridable e = kept ms ns modifier.Overridable e (λ same. absurd cc)
-split_last ms ns modifier.Overrides e = kept ms ns modifier.Overrides e (λ same. absurd cc)
-split_last ms ns modifier.MustOverride e = kept ms ns modifier.MustOverride e (λ same. absurd cc)
-split_last ms ns modifier.NotOverridable e = kept ms ns modifier.NotOverridable e (λ same. absurd cc)
-split_last ms ns modifier.Overloads e = kept ms ns modifier.Overloads e (λ same. absurd cc)
-split_last ms ns modifier.Shadows e = kept ms ns modifier.Shadows e (λ same. absurd cc)
-
-split_at : (ms : List Modifier) (o : Option (List Modifier × Modifier)) → popped ms ≡ o → SplitModifiers ms (last_split o)
-split_at ms None was = record { whole = sym (popped_none ms was); bare = λ r ends. none_last ends; plain = refl }
-split_at ms (Some p) was = split_last ms p.0 p.1 (popped_whole ms p.0 p.1 was)
-
-split_found : (ms : List Modifier) → SplitModifiers ms (property_split ms)
-unfolding property_split
-split_found ms = split_at ms (popped ms) refl
 
 -- NAMES THAT ARE WORDS
 
@@ -312,9 +272,6 @@ module _ (words : ContextualWords) where
         );
       })
 
-  kind_modifiers : (ms : List Modifier) (k : PropertyKind) (j : PropertyKind) → j ≡ k → property_modifiers ms j ≡ property_modifiers ms k
-  kind_modifiers ms k j e = ap (property_modifiers ms) e
-
   write_only_found : (ms : List Modifier) (ts : List Token) (d : DeclarationLine) → write_only_behind ms ts ≡ Some d → Stands words ms (reserved word.WriteOnly ∷ ts) d
   unfolding write_only_behind
   write_only_found ms (token.Keyword word.Property ∷ ts) d e =
@@ -322,12 +279,9 @@ module _ (words : ContextualWords) where
       let f = header_found property.WriteOnly ts a.0 a.1 in
       stands_as words ms (reserved word.WriteOnly ∷ reserved word.Property ∷ ts) d (line.Property ms a.0) (some_same (line.Property ms a.0) d a.2)
       (record {
-        modifiers = kind_modifiers ms property.WriteOnly a.0.kind f.kind;
-        behind = (
-          λ r. absurd (not_both a.0.kind r f.kind),
-          subst (λ (k : PropertyKind). Words (property_words k) (IsProperty a.0) (reserved word.WriteOnly ∷ reserved word.Property ∷ ts)) (sym f.kind)
-              (reserved word.Property ∷ ts, refl, (ts, refl, f.header)),
-        );
+        modifiers = subst (λ (k : PropertyKind). ArePropertyModifiers ms k ms) (sym f.kind) refl;
+        behind = subst (λ (k : PropertyKind). Words (property_words k) (IsProperty a.0) (reserved word.WriteOnly ∷ reserved word.Property ∷ ts)) (sym f.kind)
+            (reserved word.Property ∷ ts, refl, (ts, refl, f.header));
       })
   write_only_found ms ts d e = absurd cc
 
@@ -338,11 +292,8 @@ module _ (words : ContextualWords) where
       let f = header_found p.1 ts a.0 a.1 in
       stands_as words ms (reserved word.Property ∷ ts) d (line.Property p.0 a.0) (some_same (line.Property p.0 a.0) d a.2)
       (record {
-        modifiers = ap (property_modifiers p.0) f.kind ∙ split.whole;
-        behind = (
-          λ r. split.bare (sym f.kind ∙ r),
-          subst (λ (ws : List Keyword). Words ws (IsProperty a.0) (reserved word.Property ∷ ts)) (sym (ap property_words f.kind ∙ split.plain)) (ts, refl, f.header),
-        );
+        modifiers = subst (λ (k : PropertyKind). ArePropertyModifiers p.0 k ms) (sym f.kind) split.are;
+        behind = subst (λ (ws : List Keyword). Words ws (IsProperty a.0) (reserved word.Property ∷ ts)) (sym (ap property_words f.kind ∙ split.plain)) (ts, refl, f.header);
       })
 
   property_found : (ms : List Modifier) (ts : List Token) (d : DeclarationLine) → property_behind ms ts ≡ Some d → Stands words ms (reserved word.Property ∷ ts) d

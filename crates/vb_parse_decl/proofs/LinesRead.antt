@@ -13,10 +13,9 @@ use Rattle.vb_syntax.specs.declared.declaration.Modifier.TheVariants as modifier
 use Rattle.vb_syntax.specs.declared.declaration.PropertyKind.TheVariants as property
 use Rattle.vb_syntax.specs.declared.item.DeclarationLine.TheVariants as line
 use Rattle.vb_syntax.specs.declared.item.EventAccessorKind.TheVariants as accessor
-use Rattle.vb_parse_expr.specs.{Words.name_of, TypeReading.{and_then, read_name, read_type, after_opening_of, popped, most_tokens}, Reading.after_opening}
-use Rattle.vb_parse_expr.proofs.Lists.{popped_append}
-use Rattle.vb_parse_decl.specs.{Parts.{reserved, IsType, IsNamed, Names, Words, Part, AreListed}, Declarations.{AreTypeParameters, IsNameModifier, IsDeclared, AreWritten, AreParameters, Signed, IsResult, IsHandler, IsInitial, AreImplemented}, DeclarationLines.{access_modifiers, property_modifiers, EndsReadOnly, modifiers_of, delegate_word, property_words, accessor_word, IsProperty, Behind}, DeclarationReading.{read_list, name_modifier_of, read_declared, read_written, read_parameters, read_type_parameters, read_signature, read_result}, ModifierReading.{only_access, kind_split, last_split, property_split}, LineReading.{ended, given, last_implements, read_module, read_class, read_interface, read_delegate, last_types, read_inherits, read_implements_line, read_sub, read_constructor, read_function, read_initial, property_header, property_named, read_property, property_of, read_handler, read_event, read_custom_event, read_get, read_set, read_accessor, class_behind, delegate_behind, sub_behind, write_only_behind, property_behind, by_access, by_word, by_name, read_header}}
-use Rattle.vb_parse_decl.proofs.{Readers.{part_read, name_read, then_is}, ReadersLists.EndsList, ReadersTypes.{Stops, types_reads}, ReadersParameters.{NoTypeParameters, NoParameters, Anything, type_parameters_reads, declared_reads, written_reads, parameters_reads, modifier_finds}, ReadersMembers.{popped_whole, popped_none, whole_reads, last_finds_members, ends_nothing}, ReadersSignatures.{EndsInitial, signed_read, result_read, result_no_parameters, handler_reads, initial_reads, implements_no_parameters, implements_stops, implements_ends, declared_no_parameters, initial_stops, nothing_no_opening, nothing_stops}}
+use Rattle.vb_parse_expr.specs.{Words.name_of, TypeReading.{and_then, read_name, read_type, after_opening_of, most_tokens}, Reading.after_opening}
+use Rattle.vb_parse_decl.specs.{Parts.{reserved, IsType, IsNamed, Names, Words, Part, AreListed}, Declarations.{AreTypeParameters, IsNameModifier, IsDeclared, AreWritten, AreParameters, Signed, IsResult, IsHandler, IsInitial, AreImplemented}, DeclarationLines.{access_modifiers, ArePropertyModifiers, AreModifiersOf, delegate_word, property_words, accessor_word, IsProperty, Behind}, DeclarationReading.{read_list, name_modifier_of, read_declared, read_written, read_parameters, read_type_parameters, read_signature, read_result}, ModifierReading.{only_access, property_split}, LineReading.{ended, given, last_implements, read_module, read_class, read_interface, read_delegate, last_types, read_inherits, read_implements_line, read_sub, read_constructor, read_function, read_initial, property_header, property_named, read_property, property_of, read_handler, read_event, read_custom_event, read_get, read_set, read_accessor, class_behind, delegate_behind, sub_behind, write_only_behind, property_behind, by_access, by_word, by_name, read_header}}
+use Rattle.vb_parse_decl.proofs.{Readers.{part_read, name_read, then_is}, ReadersLists.EndsList, ReadersTypes.{Stops, types_reads}, ReadersParameters.{NoTypeParameters, NoParameters, Anything, type_parameters_reads, declared_reads, written_reads, parameters_reads, modifier_finds}, ReadersMembers.{whole_reads, last_finds_members, ends_nothing}, ReadersSignatures.{EndsInitial, signed_read, result_read, result_no_parameters, handler_reads, initial_reads, implements_no_parameters, implements_stops, implements_ends, declared_no_parameters, initial_stops, nothing_no_opening, nothing_stops}, PropertyModifiers.{read_only_split, read_write_split}}
 
 given_is : {A B : Type 0} (o : Option A) (f : A → Option B) (x : A) → o ≡ Some x → given o f ≡ f x
 given_is o f x e = ap (λ q. given q f) e
@@ -136,24 +135,6 @@ header_reads h us few p =
     ∙ then_is (read_initial b.rest) (λ i ys. given (last_implements ys) (λ js. Some (property_header h.kind h.name h.modifier h.declared i js))) h.initializer c.rest c.reads
     ∙ given_is (last_implements c.rest) (λ js. Some (property_header h.kind h.name h.modifier h.declared h.initializer js)) h.implements
     (last_finds_members c.rest h.implements c.few c.behind)
-
-kept : (ns : List Modifier) (m : Modifier) → (m ≡ modifier.ReadOnly → ⊥) → kind_split ns m ≡ (ns ++ m ∷ [], property.ReadWrite)
-kept ns modifier.ReadOnly other = absurd (other refl)
-kept ns m other = refl
-
-bare_at : (ms : List Modifier) (o : Option (List Modifier × Modifier)) → popped ms ≡ o → (EndsReadOnly ms → ⊥) → last_split o ≡ (ms, property.ReadWrite)
-bare_at ms None was bare = ap (λ (xs : List Modifier). (xs, property.ReadWrite)) (sym (popped_none ms was))
-bare_at ms (Some p) was bare =
-    let whole = popped_whole ms p.0 p.1 was in
-    kept p.0 p.1 (λ same. bare (p.0, whole ∙ ap (λ (m : Modifier). p.0 ++ m ∷ []) same)) ∙ ap (λ (xs : List Modifier). (xs, property.ReadWrite)) (sym whole)
-
-bare_split : (ms : List Modifier) → (EndsReadOnly ms → ⊥) → property_split ms ≡ (ms, property.ReadWrite)
-unfolding property_split
-bare_split ms bare = bare_at ms (popped ms) refl bare
-
-read_only_split : (ms : List Modifier) → property_split (ms ++ modifier.ReadOnly ∷ []) ≡ (ms, property.ReadOnly)
-unfolding property_split
-read_only_split ms = ap last_split (popped_append ms modifier.ReadOnly)
 
 event_reads : (ms : List Modifier) (n : Name) (h : EventHandler) (is : List ImplementedMember) (us : List Token) → length us ≤ most_tokens
     → Names n (Part IsHandler h (λ vs. AreImplemented vs is)) us → read_event ms us ≡ Some (line.Event ms n h is)
@@ -320,16 +301,17 @@ module _ (words : ContextualWords) where
   property_is ms h k us same few p =
       given_is (read_property k us) (λ x. Some (line.Property ms x)) h (ap (λ j. read_property j us) (sym same) ∙ header_reads h us few p)
 
-  property_line : (ms : List Modifier) (h : PropertyHeader) (k : PropertyKind) (ts : List Token) → h.kind ≡ k → length ts ≤ most_tokens
-      → (k ≡ property.ReadWrite → EndsReadOnly ms → ⊥) → Words (property_words k) (IsProperty h) ts → read_header words (property_modifiers ms k) ts ≡ Some (line.Property ms h)
-  property_line ms h property.WriteOnly ts same few bare (us, is, (vs, is2, p)) =
-      ap (read_header words ms) (is ∙ ap (λ ws. reserved word.WriteOnly ∷ ws) is2) ∙ is_write_only ms vs
+  property_line : (ms all : List Modifier) (h : PropertyHeader) (k : PropertyKind) (ts : List Token) → h.kind ≡ k → length ts ≤ most_tokens
+      → ArePropertyModifiers ms k all → Words (property_words k) (IsProperty h) ts → read_header words all ts ≡ Some (line.Property ms h)
+  property_line ms all h property.WriteOnly ts same few are (us, is, (vs, is2, p)) =
+      ap (read_header words all) (is ∙ ap (λ ws. reserved word.WriteOnly ∷ ws) is2) ∙ is_write_only all vs
+      ∙ ap (λ (xs : List Modifier). property_of (xs, property.WriteOnly) vs) (sym are)
       ∙ property_is ms h property.WriteOnly vs same (fewer us vs (reserved word.Property) is2 (fewer ts us (reserved word.WriteOnly) is few)) p
-  property_line ms h property.ReadOnly ts same few bare (us, is, p) =
-      ap (read_header words (ms ++ modifier.ReadOnly ∷ [])) is ∙ is_property (ms ++ modifier.ReadOnly ∷ []) us ∙ ap (λ q. property_of q us) (read_only_split ms)
+  property_line ms all h property.ReadOnly ts same few are (us, is, p) =
+      ap (read_header words all) is ∙ is_property all us ∙ ap (λ q. property_of q us) (read_only_split ms all are)
       ∙ property_is ms h property.ReadOnly us same (fewer ts us (reserved word.Property) is few) p
-  property_line ms h property.ReadWrite ts same few bare (us, is, p) =
-      ap (read_header words ms) is ∙ is_property ms us ∙ ap (λ q. property_of q us) (bare_split ms (bare refl))
+  property_line ms all h property.ReadWrite ts same few are (us, is, p) =
+      ap (read_header words all) is ∙ is_property all us ∙ ap (λ q. property_of q us) (read_write_split ms all are)
       ∙ property_is ms h property.ReadWrite us same (fewer ts us (reserved word.Property) is few) p
 
   sub_line : (ms : List Modifier) (s : MethodSignature) (is : List ImplementedMember) (ts : List Token) → length ts ≤ most_tokens
@@ -344,35 +326,57 @@ module _ (words : ContextualWords) where
   IsHeaderLine (line.Constants ms ds) = ⊥
   IsHeaderLine d = Unit {0}
 
-  pub header_read : (d : DeclarationLine) (ts : List Token) → IsHeaderLine d → length ts ≤ most_tokens → Behind words d ts → read_header words (modifiers_of d) ts ≡ Some d
-  header_read (line.Module a n) ts header few (us, is, p) =
-      ap (read_header words (access_modifiers a)) is ∙ is_module (access_modifiers a) us ∙ module_reads a n us (fewer ts us (reserved word.Module) is few) p
-  header_read (line.Class a m n ps) ts header few p = class_line a m n ps ts few p
-  header_read (line.Interface a n ps) ts header few (us, is, p) =
-      ap (read_header words (access_modifiers a)) is ∙ is_interface (access_modifiers a) us ∙ interface_reads a n ps us (fewer ts us (reserved word.Interface) is few) p
-  header_read (line.Delegate a k n qs ps r) ts header few (us, is, (vs, is2, p)) =
-      ap (read_header words (access_modifiers a)) (is ∙ ap (λ ws. reserved word.Delegate ∷ ws) is2) ∙ delegate_line k (access_modifiers a) vs
+  as_written : (ms all : List Modifier) (ts : List Token) (d : DeclarationLine) → ms ≡ all → read_header words ms ts ≡ Some d → read_header words all ts ≡ Some d
+  as_written ms all ts d are e = ap (λ (xs : List Modifier). read_header words xs ts) (sym are) ∙ e
+
+  pub header_read : (d : DeclarationLine) (all : List Modifier) (ts : List Token) → IsHeaderLine d → length ts ≤ most_tokens → AreModifiersOf d all → Behind words d ts
+      → read_header words all ts ≡ Some d
+  header_read (line.Module a n) all ts header few are (us, is, p) =
+      as_written (access_modifiers a) all ts (line.Module a n) are
+      (ap (read_header words (access_modifiers a)) is ∙ is_module (access_modifiers a) us ∙ module_reads a n us (fewer ts us (reserved word.Module) is few) p)
+  header_read (line.Class a m n ps) all ts header few are p =
+      as_written (access_modifiers a) all ts (line.Class a m n ps) are
+      (class_line a m n ps ts few p)
+  header_read (line.Interface a n ps) all ts header few are (us, is, p) =
+      as_written (access_modifiers a) all ts (line.Interface a n ps) are
+      (ap (read_header words (access_modifiers a)) is ∙ is_interface (access_modifiers a) us ∙ interface_reads a n ps us (fewer ts us (reserved word.Interface) is few) p)
+  header_read (line.Delegate a k n qs ps r) all ts header few are (us, is, (vs, is2, p)) =
+      as_written (access_modifiers a) all ts (line.Delegate a k n qs ps r) are
+      (ap (read_header words (access_modifiers a)) (is ∙ ap (λ ws. reserved word.Delegate ∷ ws) is2) ∙ delegate_line k (access_modifiers a) vs
       ∙ delegate_reads a k (record { name = n; type_parameters = qs; parameters = ps }) r vs
-      (fewer us vs (reserved (delegate_word k)) is2 (fewer ts us (reserved word.Delegate) is few)) p
-  header_read (line.Inherits bases) ts header few (us, is, p) =
-      ap (read_header words []) is ∙ is_inherits [] us ∙ inherits_reads bases us (fewer ts us (reserved word.Inherits) is few) p
-  header_read (line.Implements bases) ts header few (us, is, p) =
-      ap (read_header words []) is ∙ is_implements [] us ∙ implements_reads bases us (fewer ts us (reserved word.Implements) is few) p
-  header_read (line.Variables ms ds) ts header few p = absurd header
-  header_read (line.Constants ms ds) ts header few p = absurd header
-  header_read (line.Sub ms s is) ts header few p = sub_line ms s is ts few p
-  header_read (line.Constructor ms ps js) ts header few (us, is, (vs, is2, p)) =
-      ap (read_header words ms) (is ∙ ap (λ ws. reserved word.Sub ∷ ws) is2) ∙ is_new ms vs
-      ∙ constructor_reads ms ps js vs (fewer us vs (reserved word.New) is2 (fewer ts us (reserved word.Sub) is few)) p
-  header_read (line.Function ms k s r is) ts header few p = function_line k ms s r is ts few p
-  header_read (line.Property ms h) ts header few (bare, p) = property_line ms h h.kind ts refl few bare p
-  header_read (line.Event ms n h js) ts header few (us, is, p) =
-      ap (read_header words ms) is ∙ is_event ms us ∙ event_reads ms n h js us (fewer ts us (reserved word.Event) is few) p
-  header_read (line.CustomEvent ms n a) ts header few (us, is, (vs, is2, p)) =
-      ap (read_header words ms) (is ∙ ap (λ ws. token.Name words.custom ∷ ws) is2) ∙ is_custom ms vs
-      ∙ custom_event_reads ms n a vs (fewer us vs (reserved word.Event) is2 (fewer ts us (token.Name words.custom) is few)) p
-  header_read (line.Get a) ts header few is = ap (read_header words (access_modifiers a)) is ∙ is_get (access_modifiers a) [] ∙ get_reads a
-  header_read (line.Set a ps) ts header few (us, is, p) =
-      ap (read_header words (access_modifiers a)) is ∙ is_set (access_modifiers a) us ∙ set_reads a ps us (fewer ts us (reserved word.Set) is few) p
-  header_read (line.EventAccessor k ps) ts header few (us, is, p) =
-      ap (read_header words []) is ∙ accessor_line k us ∙ accessor_reads k ps us (fewer ts us (reserved (accessor_word k)) is few) p
+      (fewer us vs (reserved (delegate_word k)) is2 (fewer ts us (reserved word.Delegate) is few)) p)
+  header_read (line.Inherits bases) all ts header few are (us, is, p) =
+      as_written [] all ts (line.Inherits bases) are
+      (ap (read_header words []) is ∙ is_inherits [] us ∙ inherits_reads bases us (fewer ts us (reserved word.Inherits) is few) p)
+  header_read (line.Implements bases) all ts header few are (us, is, p) =
+      as_written [] all ts (line.Implements bases) are
+      (ap (read_header words []) is ∙ is_implements [] us ∙ implements_reads bases us (fewer ts us (reserved word.Implements) is few) p)
+  header_read (line.Variables ms ds) all ts header few are p = absurd header
+  header_read (line.Constants ms ds) all ts header few are p = absurd header
+  header_read (line.Sub ms s is) all ts header few are p =
+      as_written ms all ts (line.Sub ms s is) are
+      (sub_line ms s is ts few p)
+  header_read (line.Constructor ms ps js) all ts header few are (us, is, (vs, is2, p)) =
+      as_written ms all ts (line.Constructor ms ps js) are
+      (ap (read_header words ms) (is ∙ ap (λ ws. reserved word.Sub ∷ ws) is2) ∙ is_new ms vs
+      ∙ constructor_reads ms ps js vs (fewer us vs (reserved word.New) is2 (fewer ts us (reserved word.Sub) is few)) p)
+  header_read (line.Function ms k s r is) all ts header few are p =
+      as_written ms all ts (line.Function ms k s r is) are
+      (function_line k ms s r is ts few p)
+  header_read (line.Property ms h) all ts header few are p = property_line ms all h h.kind ts refl few are p
+  header_read (line.Event ms n h js) all ts header few are (us, is, p) =
+      as_written ms all ts (line.Event ms n h js) are
+      (ap (read_header words ms) is ∙ is_event ms us ∙ event_reads ms n h js us (fewer ts us (reserved word.Event) is few) p)
+  header_read (line.CustomEvent ms n a) all ts header few are (us, is, (vs, is2, p)) =
+      as_written ms all ts (line.CustomEvent ms n a) are
+      (ap (read_header words ms) (is ∙ ap (λ ws. token.Name words.custom ∷ ws) is2) ∙ is_custom ms vs
+      ∙ custom_event_reads ms n a vs (fewer us vs (reserved word.Event) is2 (fewer ts us (token.Name words.custom) is few)) p)
+  header_read (line.Get a) all ts header few are is =
+      as_written (access_modifiers a) all ts (line.Get a) are
+      (ap (read_header words (access_modifiers a)) is ∙ is_get (access_modifiers a) [] ∙ get_reads a)
+  header_read (line.Set a ps) all ts header few are (us, is, p) =
+      as_written (access_modifiers a) all ts (line.Set a ps) are
+      (ap (read_header words (access_modifiers a)) is ∙ is_set (access_modifiers a) us ∙ set_reads a ps us (fewer ts us (reserved word.Set) is few) p)
+  header_read (line.EventAccessor k ps) all ts header few are (us, is, p) =
+      as_written [] all ts (line.EventAccessor k ps) are
+      (ap (read_header words []) is ∙ accessor_line k us ∙ accessor_reads k ps us (fewer ts us (reserved (accessor_word k)) is few) p)

@@ -1,5 +1,6 @@
 -- Which tokens spell which line of the declarations of types and members (Visual Basic Language Specification 11.0, 7 and 9).
-use Rattle.std.specs.Prelude.{◌≡◌, ◌⊎◌, List, [], ◌∷◌, ◌++◌, Option, Some, None}
+use Rattle.std.specs.Prelude.{◌≡◌, ◌⊎◌, Bool, true, false, List, [], ◌∷◌, ◌++◌, Option, Some, None}
+use Rattle.std.specs.List.{list_any}
 use Rattle.vb_syntax.specs.declared.{keyword.Keyword.Keyword, tokens.Token.Token, declaration.{Access.Access, ClassModifier.ClassModifier, DelegateKind.DelegateKind, FunctionKind.FunctionKind, Modifier.Modifier, PropertyKind.PropertyKind}, item.{DeclarationLine.DeclarationLine, EventAccessorKind.EventAccessorKind, PropertyHeader.PropertyHeader}, words.ContextualWords.ContextualWords}
 use Rattle.vb_syntax.specs.declared.keyword.Keyword.TheVariants as word
 use Rattle.vb_syntax.specs.declared.tokens.Token.TheVariants as token
@@ -18,33 +19,41 @@ abbrev pub access_modifiers : Option Access → List Modifier
 access_modifiers None = []
 access_modifiers (Some a) = modifier.Access a ∷ []
 
--- the `ReadOnly` of a property is the last before it
-abbrev pub property_modifiers : List Modifier → PropertyKind → List Modifier
-property_modifiers ms property.ReadOnly = ms ++ modifier.ReadOnly ∷ []
-property_modifiers ms k = ms
+abbrev pub is_read_only : Modifier → Bool
+is_read_only modifier.ReadOnly = true
+is_read_only m = false
 
-abbrev pub EndsReadOnly : List Modifier → Type 0
-EndsReadOnly ms = (ns : List Modifier) × (ms ≡ ns ++ modifier.ReadOnly ∷ [])
+abbrev pub has_read_only : List Modifier → Bool
+has_read_only ms = list_any is_read_only ms
 
--- types and the accessors of properties have an access alone, and some lines have none
-abbrev pub modifiers_of : DeclarationLine → List Modifier
-modifiers_of (line.Module a n) = access_modifiers a
-modifiers_of (line.Class a m n ps) = access_modifiers a
-modifiers_of (line.Interface a n ps) = access_modifiers a
-modifiers_of (line.Delegate a k n ts ps r) = access_modifiers a
-modifiers_of (line.Inherits bases) = []
-modifiers_of (line.Implements bases) = []
-modifiers_of (line.Variables ms ds) = ms
-modifiers_of (line.Constants ms ds) = ms
-modifiers_of (line.Sub ms s is) = ms
-modifiers_of (line.Constructor ms ps is) = ms
-modifiers_of (line.Function ms k s r is) = ms
-modifiers_of (line.Property ms h) = property_modifiers ms h.kind
-modifiers_of (line.Event ms n h is) = ms
-modifiers_of (line.CustomEvent ms n a) = ms
-modifiers_of (line.Get a) = access_modifiers a
-modifiers_of (line.Set a ps) = access_modifiers a
-modifiers_of (line.EventAccessor k ps) = []
+-- the modifiers of a property, as they are written, by those that the tree keeps and its kind: the last `ReadOnly`, wherever it
+-- stands, gives the kind (9.7); `WriteOnly` stands right before `Property`
+abbrev pub ArePropertyModifiers : List Modifier → PropertyKind → List Modifier → Type 0
+ArePropertyModifiers ms property.ReadOnly all =
+    (before after : List Modifier) × (all ≡ before ++ modifier.ReadOnly ∷ after) × (ms ≡ before ++ after) × (has_read_only after ≡ false)
+ArePropertyModifiers ms property.ReadWrite all = (ms ≡ all) × (has_read_only all ≡ false)
+ArePropertyModifiers ms property.WriteOnly all = ms ≡ all
+
+-- these are the modifiers of the line, as they are written: types and the accessors of properties have an access alone, and some
+-- lines have none
+abbrev pub AreModifiersOf : DeclarationLine → List Modifier → Type 0
+AreModifiersOf (line.Module a n) all = access_modifiers a ≡ all
+AreModifiersOf (line.Class a m n ps) all = access_modifiers a ≡ all
+AreModifiersOf (line.Interface a n ps) all = access_modifiers a ≡ all
+AreModifiersOf (line.Delegate a k n ts ps r) all = access_modifiers a ≡ all
+AreModifiersOf (line.Inherits bases) all = [] ≡ all
+AreModifiersOf (line.Implements bases) all = [] ≡ all
+AreModifiersOf (line.Variables ms ds) all = ms ≡ all
+AreModifiersOf (line.Constants ms ds) all = ms ≡ all
+AreModifiersOf (line.Sub ms s is) all = ms ≡ all
+AreModifiersOf (line.Constructor ms ps is) all = ms ≡ all
+AreModifiersOf (line.Function ms k s r is) all = ms ≡ all
+AreModifiersOf (line.Property ms h) all = ArePropertyModifiers ms h.kind all
+AreModifiersOf (line.Event ms n h is) all = ms ≡ all
+AreModifiersOf (line.CustomEvent ms n a) all = ms ≡ all
+AreModifiersOf (line.Get a) all = access_modifiers a ≡ all
+AreModifiersOf (line.Set a ps) all = access_modifiers a ≡ all
+AreModifiersOf (line.EventAccessor k ps) all = [] ≡ all
 
 -- WHAT STANDS BEHIND THEM
 
@@ -93,7 +102,7 @@ Behind words (line.Constructor ms ps is) ts = Begins word.Sub (Begins word.New (
 Behind words (line.Function ms k s r is) ts =
     IsFunction words k (Signed s.name s.type_parameters s.parameters (Part IsDeclared r (λ us. AreImplemented us is))) ts
 -- 9.7
-Behind words (line.Property ms h) ts = (h.kind ≡ property.ReadWrite → EndsReadOnly ms → ⊥) × Words (property_words h.kind) (IsProperty h) ts
+Behind words (line.Property ms h) ts = Words (property_words h.kind) (IsProperty h) ts
 -- 9.4 and 9.4.1
 Behind words (line.Event ms n h is) ts = Begins word.Event (Names n (Part IsHandler h (λ us. AreImplemented us is))) ts
 Behind words (line.CustomEvent ms n a) ts = After (token.Name words.custom) (Begins word.Event (Names n (λ us. IsDeclared us a))) ts
@@ -104,4 +113,4 @@ Behind words (line.EventAccessor k ps) ts = Begins (accessor_word k) (λ us. Are
 
 -- The tokens spell the line.
 abbrev pub IsDeclarationLine : ContextualWords → List Token → DeclarationLine → Type 0
-IsDeclarationLine words ts d = Modified (modifiers_of d) (Behind words d) ts
+IsDeclarationLine words ts d = (all : List Modifier) × AreModifiersOf d all × Modified all (Behind words d) ts

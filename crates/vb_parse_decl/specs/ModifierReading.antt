@@ -1,12 +1,13 @@
 -- How the modifiers of a line are read: private steps on lists, which the code equals.
-use Rattle.std.specs.Prelude.{ℕ, zero, suc, List, [], ◌∷◌, ◌++◌, length, Option, Some, None}
+use Rattle.std.specs.Prelude.{if◌then◌else◌, Bool, true, false, not, ℕ, zero, suc, List, [], ◌∷◌, ◌++◌, length, Option, Some, None}
 use Rattle.vb_syntax.specs.declared.{keyword.Keyword.Keyword, tokens.Token.Token, declaration.{Access.Access, Modifier.Modifier, PropertyKind.PropertyKind}}
 use Rattle.vb_syntax.specs.declared.keyword.Keyword.TheVariants as word
 use Rattle.vb_syntax.specs.declared.tokens.Token.TheVariants as token
 use Rattle.vb_syntax.specs.declared.declaration.Access.TheVariants as access
 use Rattle.vb_syntax.specs.declared.declaration.Modifier.TheVariants as modifier
 use Rattle.vb_syntax.specs.declared.declaration.PropertyKind.TheVariants as property
-use Rattle.vb_parse_expr.specs.TypeReading.{Read, popped}
+use Rattle.vb_parse_expr.specs.TypeReading.{Read}
+use Rattle.vb_parse_decl.specs.DeclarationLines.{has_read_only}
 
 abbrev pub word_modifier : Keyword → Option Modifier
 word_modifier word.Public = Some (modifier.Access access.Public)
@@ -60,14 +61,18 @@ only_access [] = Some None
 only_access (modifier.Access a ∷ []) = Some (Some a)
 only_access ms = None
 
-abbrev pub kind_split : List Modifier → Modifier → List Modifier × PropertyKind
-kind_split ms modifier.ReadOnly = (ms, property.ReadOnly)
-kind_split ms m = (ms ++ m ∷ [], property.ReadWrite)
+abbrev pub is_last_read_only : Modifier → List Modifier → Bool
+is_last_read_only modifier.ReadOnly behind = not (has_read_only behind)
+is_last_read_only m behind = false
 
-abbrev pub last_split : Option (List Modifier × Modifier) → List Modifier × PropertyKind
-last_split None = ([], property.ReadWrite)
-last_split (Some p) = kind_split p.0 p.1
+unfoldable pub without_last : List Modifier → List Modifier
+without_last [] = []
+without_last (m ∷ ms) = if is_last_read_only m ms then without_last ms else m ∷ without_last ms
 
--- without the `ReadOnly` that stands last
-unfoldable pub property_split : List Modifier → List Modifier × PropertyKind
-property_split ms = last_split (popped ms)
+abbrev pub split_where : Bool → List Modifier → List Modifier × PropertyKind
+split_where true ms = (without_last ms, property.ReadOnly)
+split_where false ms = (ms, property.ReadWrite)
+
+-- without the last `ReadOnly`, which gives the kind of a property
+abbrev pub property_split : List Modifier → List Modifier × PropertyKind
+property_split ms = split_where (has_read_only ms) ms

@@ -96,7 +96,7 @@ pub fn write_only_behind(
     }
 }
 
-/// What stands behind `Property`: a `ReadOnly` that stands before it belongs to it.
+/// What stands behind `Property`: the last `ReadOnly` among the modifiers gives its kind.
 #[tactic(auto, unfolding(crate::specs::LineReading::property_behind))]
 pub fn property_behind(
     alloc: Global,
@@ -105,7 +105,7 @@ pub fn property_behind(
 ) -> Result<DeclarationLine, Fault>
     ensures { Gives (λ x. x) result (spec.property_behind modifiers tokens.now) }
 {
-    let (modifiers, kind) = property_split(modifiers)?;
+    let (modifiers, kind) = property_split(alloc, modifiers)?;
     let header = read_property(alloc, kind, tokens)?;
     Ok(DeclarationLine::Property(modifiers, header))
 }

@@ -1,6 +1,7 @@
 // The modifiers of a line.
 ghost use Rattle.std.specs.Prelude.{◌≡◌, IfOk, [], option_map};
 ghost use Rattle.vb_parse_expr.specs.TypeReading.{Gives};
+ghost use Rattle.vb_parse_decl.specs.DeclarationLines as lines;
 ghost use Rattle.vb_parse_decl.specs.ModifierReading as spec;
 
 use std::alloc::{AllocError, Global};
@@ -95,20 +96,58 @@ pub fn only_access(modifiers: &Items<Modifier>) -> Result<Option<Access>, Fault>
     }
 }
 
-/// Without the `ReadOnly` that stands last, which belongs to a property.
-#[tactic(auto, using(vb_parse_expr::proofs::Lists::popped_last), unfolding(crate::specs::ModifierReading::property_split, vb_parse_expr::specs::TypeReading::popped))]
+/// The modifiers of a property and its kind: the last `ReadOnly`, wherever it stands, gives the kind and is not kept among them.
 pub fn property_split(
+    alloc: Global,
     modifiers: Items<Modifier>,
 ) -> Result<(Items<Modifier>, PropertyKind), AllocError>
     ensures { IfOk result (λ x. x ≡ spec.property_split modifiers) }
 {
-    let mut before = modifiers;
-    match before.pop() {
-        Some(Modifier::ReadOnly) => Ok((before, PropertyKind::ReadOnly)),
-        Some(last) => {
-            before.push(last)?;
-            Ok((before, PropertyKind::ReadWrite))
-        }
-        None => Ok((before, PropertyKind::ReadWrite)),
+    if !has_read_only(modifiers.as_slice()) {
+        return Ok((modifiers, PropertyKind::ReadWrite));
     }
+    let kept = without_last(alloc, modifiers.as_slice())?;
+    Ok((kept, PropertyKind::ReadOnly))
+}
+
+// Without the last `ReadOnly`.
+#[tactic(auto, using(crate::proofs::PropertyModifiers::turn_stays, crate::proofs::PropertyModifiers::turn_drops), unfolding(crate::specs::ModifierReading::without_last))]
+fn without_last(alloc: Global, modifiers: &[Modifier]) -> Result<Items<Modifier>, AllocError>
+    ensures { IfOk result (λ x. x ≡ spec.without_last modifiers.now) }
+{
+    let mut kept = Items::new(alloc);
+    let mut rest = modifiers;
+    while let [first, behind @ ..] = rest {
+        if !is_last_read_only(*first, behind) {
+            kept.push(*first)?;
+        }
+        rest = behind;
+    }
+    Ok(kept)
+}
+
+fn is_last_read_only(modifier: Modifier, behind: &[Modifier]) -> bool
+    ensures { result ≡ spec.is_last_read_only modifier behind.now }
+{
+    match modifier {
+        Modifier::ReadOnly => !has_read_only(behind),
+        _ => false,
+    }
+}
+
+fn has_read_only(modifiers: &[Modifier]) -> bool
+    ensures { result ≡ lines.has_read_only modifiers.now }
+{
+    for modifier in modifiers {
+        if is_read_only(*modifier) {
+            return true;
+        }
+    }
+    false
+}
+
+fn is_read_only(modifier: Modifier) -> bool
+    ensures { result ≡ lines.is_read_only modifier }
+{
+    matches!(modifier, Modifier::ReadOnly)
 }

@@ -28,7 +28,7 @@ const TYPES: [(&str, &str); 16] = [
     ("Implements a(Of Integer)", "implements .a<Integer>"),
 ];
 
-const MEMBERS: [(&str, &str); 25] = [
+const MEMBERS: [(&str, &str); 29] = [
     (
         "Private a, b As Integer",
         "private variables a b as Integer",
@@ -62,8 +62,24 @@ const MEMBERS: [(&str, &str); 25] = [
         "property read a as Integer",
     ),
     (
+        "ReadOnly Public Property a As Integer",
+        "public property read a as Integer",
+    ),
+    (
+        "Public ReadOnly Property a As b",
+        "public property read a as .b",
+    ),
+    (
         "ReadOnly Shared Property a() As b = 1 Implements c.d",
-        "read only shared property a() as .b gets [1] implements .c.d",
+        "shared property read a() as .b gets [1] implements .c.d",
+    ),
+    (
+        "ReadOnly Shared ReadOnly Public Property a As b",
+        "read only shared public property read a as .b",
+    ),
+    (
+        "Public ReadOnly WriteOnly Property a As b",
+        "public read only property write a as .b",
     ),
     (
         "Overridable WriteOnly Property a As b",

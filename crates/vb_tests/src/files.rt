@@ -40,7 +40,7 @@ const OPTIONS: [(&str, &str); 10] = [
 ];
 
 // Lines of a class.
-const MODIFIERS: [(&str, &str); 20] = [
+const MODIFIERS: [(&str, &str); 22] = [
     ("Protected Friend Shared a As Integer", "fine"),
     ("Friend Protected a As Integer", "V036 at 2"),
     ("Public Private Const a = 1", "V036 at 2"),
@@ -67,6 +67,11 @@ const MODIFIERS: [(&str, &str); 20] = [
     ),
     ("Shared Overloads Shared Sub s()", "V031 at 2"),
     ("ReadOnly Property p As Integer", "fine"),
+    ("ReadOnly Public Property p As Integer", "fine"),
+    (
+        "ReadOnly ReadOnly Public Property p As Integer",
+        "V036 at 2",
+    ),
     (
         "ReadOnly Shared ReadOnly Property p As Integer",
         "V036 at 2",
