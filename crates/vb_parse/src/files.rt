@@ -13,8 +13,7 @@ ghost use Rattle.vb_parse.specs.Broken.{BreaksJudged};
 ghost use Rattle.vb_parse.specs.Rules.{BreaksLines, IsTreeOf};
 
 use crate::front::built_front;
-use crate::modifiers::first_at_odds;
-use crate::options::first_unsupported;
+use crate::row_rules::{RowRule, first_breaking};
 use std::alloc::{AllocError, Global};
 use vb_diag::{Refusal, Rule, broken_at, lesser};
 use vb_ends::{first_too_deep, first_unended, open_blocks_break};
@@ -104,8 +103,10 @@ fn judge(
 {
     let unended = first_unended(alloc, rows)?;
     let too_deep = first_too_deep(alloc, rows, depths)?;
-    let least = broken(file, 36, first_at_odds(rows));
-    let least = lesser(broken(file, 35, first_unsupported(rows)), least);
+    let at_odds = first_breaking(RowRule::ModifiersAtOdds, rows);
+    let unsupported = first_breaking(RowRule::UnsupportedOption, rows);
+    let least = broken(file, 36, at_odds);
+    let least = lesser(broken(file, 35, unsupported), least);
     let least = lesser(broken(file, 33, too_deep), least);
     Ok(lesser(broken(file, 31, unended), least))
 }

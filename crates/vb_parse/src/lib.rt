@@ -14,6 +14,7 @@ mod front;
 mod laws;
 mod modifiers;
 mod options;
+mod row_rules;
 
 pub use files::parse;
 pub use laws::tree_excludes;

@@ -1,11 +1,8 @@
 // Modifiers that are repeated or exclude each other.
 ghost use Rattle.std.specs.Prelude.{◌≡◌};
-ghost use Rattle.vb_diag.specs.Broken.{IsLeastLine};
 ghost use Rattle.vb_parse.specs.Modifiers as spec;
-ghost use Rattle.vb_parse.specs.Modifiers.{HasModifiersAtOdds};
 
-use vb_diag::lesser;
-use vb_syntax::{Access, DeclarationLine, Item, Modifier, PropertyKind, Row};
+use vb_syntax::{Access, DeclarationLine, Item, Modifier, PropertyKind};
 
 // Whether the two are one modifier, or both say an access.
 fn repeats(first: Modifier, second: Modifier) -> bool
@@ -119,24 +116,12 @@ fn line_at_odds(line: &DeclarationLine) -> bool
     }
 }
 
-fn item_at_odds(item: &Option<Item>) -> bool
+/// Whether the item has modifiers that are repeated or exclude each other.
+pub fn item_at_odds(item: &Option<Item>) -> bool
     ensures { result ≡ spec.item_at_odds item.now }
 {
     match item {
         Some(Item::Declares(line)) => line_at_odds(line.get()),
         _ => false,
     }
-}
-
-// The least line with modifiers that are repeated or exclude each other.
-pub fn first_at_odds(rows: &[Row]) -> Option<u32>
-    ensures { IsLeastLine (HasModifiersAtOdds rows.now) result }
-{
-    let mut first = None;
-    for row in rows {
-        if item_at_odds(&row.item) {
-            first = lesser(first, Some(row.line));
-        }
-    }
-    first
 }
